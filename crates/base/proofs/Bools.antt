@@ -1,0 +1,78 @@
+-- The two truth values, and decisions. Assumes nothing.
+use mathlib.Core.Path.{_≡_, refl, sym, ap, subst}
+use mathlib.Core.Logic.{_⊎_, inl, inr}
+use mathlib.Core.Bool.{Bool, true, false, not, _&&_, _||_}
+use Prim.Native.Nat.{ℕ, _≤_, _<_}
+use native.Mathlib.Omega.{arith}
+use borrow.Author.Tests.{ltb-true, ltb-false, eqb-true, eqb-false}
+use lib.Dec.{T, ltb, eqb}
+
+pub bool-ext : (a b : Bool) → (T a → T b) → (T b → T a) → a ≡ b
+bool-ext true true f g = refl
+bool-ext true false f g = absurd (f tt)
+bool-ext false true f g = absurd (g tt)
+bool-ext false false f g = refl
+
+pub decide : (b : Bool) → T b ⊎ (T b → ⊥)
+decide true = inl tt
+decide false = inr (λ x. x)
+
+pub and-l : (a b : Bool) → T (a && b) → T a
+and-l true b h = tt
+and-l false b h = h
+
+pub and-r : (a b : Bool) → T (a && b) → T b
+and-r true b h = h
+and-r false b h = absurd h
+
+pub and-i : (a b : Bool) → T a → T b → T (a && b)
+and-i true b h k = k
+and-i false b h k = h
+
+pub or-l : (a b : Bool) → T a → T (a || b)
+or-l true b h = tt
+or-l false b h = absurd h
+
+pub or-r : (a b : Bool) → T b → T (a || b)
+or-r true b h = tt
+or-r false b h = h
+
+pub or-e : (a b : Bool) → T (a || b) → T a ⊎ T b
+or-e true b h = inl tt
+or-e false b h = inr h
+
+pub or-false : (b : Bool) → (b || false) ≡ b
+or-false true = refl
+or-false false = refl
+
+pub T-false : (b : Bool) → (T b → ⊥) → b ≡ false
+T-false true h = absurd (h tt)
+T-false false h = refl
+
+pub T-true : (b : Bool) → T b → b ≡ true
+T-true true h = refl
+T-true false h = absurd h
+
+pub T-of : (b : Bool) → b ≡ true → T b
+T-of b e = subst (λ (x : Bool). T x) (sym e) tt
+
+pub not-T-of : (b : Bool) → b ≡ false → T b → ⊥
+not-T-of b e t = subst (λ (x : Bool). T x) e t
+
+-- one value cannot be both
+pub both-ways : (b : Bool) → b ≡ true → b ≡ false → ⊥
+both-ways b t f = not-T-of b f (T-of b t)
+
+pub lt-or-le : (a b : ℕ) → (a < b) ⊎ (b ≤ a)
+lt-or-le a b = go (ltb a b) refl
+  where
+    go : (t : Bool) → ltb a b ≡ t → (a < b) ⊎ (b ≤ a)
+    go true e = inl (ltb-true a b e)
+    go false e = inr (ltb-false a b e)
+
+pub eq-or-ne : (a b : ℕ) → (a ≡ b) ⊎ (a ≡ b → ⊥)
+eq-or-ne a b = go (eqb a b) refl
+  where
+    go : (t : Bool) → eqb a b ≡ t → (a ≡ b) ⊎ (a ≡ b → ⊥)
+    go true e = inl (eqb-true a b e)
+    go false e = inr (eqb-false a b e)

@@ -1,0 +1,185 @@
+-- Laws of lists: scans from the front, membership, lists made by a rule, and a list written over the front of a lent one. Assumes nothing.
+use mathlib.Core.Path.{_≡_, refl, sym, ap, ap₂, _∙_, subst}
+use mathlib.Core.Bool.{Bool, true, false, _&&_, _||_}
+use mathlib.Core.List.{List, [], _∷_, _++_, append-nil}
+use mathlib.Core.Logic.{_⊎_, inl, inr}
+use Prim.Native.Nat.{ℕ, zero, suc, _+_, _-_, _≤_, _<_}
+use native.Mathlib.Nat.{le-of-suc-le-suc, not-suc-le-zero, le-of-lt, zero-add, add-zero}
+use native.Mathlib.Numerals.{add-one}
+use native.Mathlib.Omega.{arith}
+use borrow.Author.Tests.{eq-eqb}
+use lib.Dec.{T, eqb, eqb→eq}
+use lib.ListN.{length, getD, set, take, drop, drop-of-length-le, length-append, length-take, length-drop, length-set}
+use lib.Seq.{slice, drop-cons, take-suc, length-take-le, set-at, append-snoc, take-all, take-length, drop-length, getD-drop, getD-take, length-slice, slice-empty, drop-append-le}
+use Rattle.base.specs.Lists.{every, pairwise, isIn, listFrom, written, over}
+use Rattle.base.proofs.Bools.{or-l, or-r, or-e, or-false, T-of}
+
+-- ---- a loop that tests a list from the front: the test of the whole list is the test of what is left of it
+
+pub and-left : (a b : Bool) → a && b ≡ true → a ≡ true
+and-left true b e = refl
+and-left false b e = e
+
+pub and-right : (a b : Bool) → a && b ≡ true → b ≡ true
+and-right true b e = e
+and-right false b e = absurd (subst (λ (x : Bool). T x) (sym e) tt)
+
+module _ {A : Type 0} (f : A → Bool) (d : A) (s : List A) where
+  pub every-step : (i : ℕ) → i < length s → f (getD s i d) ≡ true → every f s ≡ every f (drop i s) → every f s ≡ every f (drop (i + 1) s)
+  every-step i h t e = e ∙ rw (drop-cons s i d h, t, add-one) refl
+
+  pub every-stop : (i : ℕ) → i < length s → f (getD s i d) ≡ false → every f s ≡ every f (drop i s) → every f s ≡ false
+  every-stop i h t e = e ∙ rw (drop-cons s i d h, t) refl
+
+  pub every-end : (i : ℕ) → length s ≤ i → every f s ≡ every f (drop i s) → every f s ≡ true
+  every-end i h e = e ∙ ap (every f) (drop-of-length-le s h)
+
+pub every-at : {A : Type 0} (f : A → Bool) (d : A) (s : List A) (i : ℕ) → every f s ≡ true → i < length s → f (getD s i d) ≡ true
+every-at f d [] i e h = absurd (not-suc-le-zero h)
+every-at f d (x ∷ xs) zero e h = and-left (f x) (every f xs) e
+every-at f d (x ∷ xs) (suc i) e h = every-at f d xs i (and-right (f x) (every f xs) e) (le-of-suc-le-suc h)
+
+module _ {A : Type 0} (f : A → A → Bool) (d : A) (s : List A) where
+  two : (i : ℕ) → i + 1 < length s → drop i s ≡ getD s i d ∷ (getD s (i + 1) d ∷ drop (suc (i + 1)) s)
+  two i h =
+      let lo : i < length s = omega arith in
+      drop-cons s i d lo ∙ ap (λ (n : ℕ). getD s i d ∷ drop n s) (sym (add-one i)) ∙ ap (λ (l : List A). getD s i d ∷ l) (drop-cons s (i + 1) d h)
+
+  pub pairwise-step : (i : ℕ) → i + 1 < length s → f (getD s i d) (getD s (i + 1) d) ≡ true → pairwise f s ≡ pairwise f (drop i s) → pairwise f s ≡ pairwise f (drop (i + 1) s)
+  pairwise-step i h t e =
+      e ∙ ap (pairwise f) (two i h) ∙ ap (λ (b : Bool). b && pairwise f (getD s (i + 1) d ∷ drop (suc (i + 1)) s)) t ∙ ap (pairwise f) (sym (drop-cons s (i + 1) d h))
+
+  pub pairwise-stop : (i : ℕ) → i + 1 < length s → f (getD s i d) (getD s (i + 1) d) ≡ false → pairwise f s ≡ pairwise f (drop i s) → pairwise f s ≡ false
+  pairwise-stop i h t e =
+      e ∙ ap (pairwise f) (two i h) ∙ ap (λ (b : Bool). b && pairwise f (getD s (i + 1) d ∷ drop (suc (i + 1)) s)) t
+
+pub pairwise-short : {A : Type 0} (f : A → A → Bool) (s : List A) → length s ≤ 1 → pairwise f s ≡ true
+pairwise-short f [] h = refl
+pairwise-short f (x ∷ []) h = refl
+pairwise-short f (x ∷ (y ∷ ys)) h = absurd (not-suc-le-zero (le-of-suc-le-suc h))
+
+pub pairwise-at : {A : Type 0} (f : A → A → Bool) (d : A) (s : List A) (i : ℕ) → pairwise f s ≡ true → i + 1 < length s → f (getD s i d) (getD s (i + 1) d) ≡ true
+pairwise-at {A = A} f d s i e h = rw add-one (go s i e (rw add-one at h))
+  where
+    go : (s : List A) (i : ℕ) → pairwise f s ≡ true → suc i < length s → f (getD s i d) (getD s (suc i) d) ≡ true
+    go [] i e h = absurd (not-suc-le-zero h)
+    go (x ∷ []) i e h = absurd (not-suc-le-zero (le-of-suc-le-suc h))
+    go (x ∷ (y ∷ ys)) zero e h = and-left (f x y) (pairwise f (y ∷ ys)) e
+    go (x ∷ (y ∷ ys)) (suc i) e h = go (y ∷ ys) i (and-right (f x y) (pairwise f (y ∷ ys)) e) (le-of-suc-le-suc h)
+
+-- ---- membership
+
+pub in-snoc : (c : ℕ) (l : List ℕ) (x : ℕ) → isIn c (l ++ (x ∷ [])) ≡ (isIn c l || eqb x c)
+unfolding isIn
+in-snoc c [] x = or-false (eqb x c)
+in-snoc c (y ∷ ys) x = ap (λ (t : Bool). eqb y c || t) (in-snoc c ys x) ∙ assoc (eqb y c) (isIn c ys) (eqb x c)
+  where
+    assoc : (a b d : Bool) → (a || (b || d)) ≡ ((a || b) || d)
+    assoc true b d = refl
+    assoc false b d = refl
+
+-- an element of a list is in it, and what is in it is an element
+pub in-at : (c : ℕ) (l : List ℕ) (i : ℕ) → i < length l → getD l i 0 ≡ c → T (isIn c l)
+unfolding isIn
+in-at c [] i h e = absurd (not-suc-le-zero h)
+in-at c (x ∷ xs) zero h e = or-l (eqb x c) (isIn c xs) (T-of (eqb x c) (eq-eqb x c e))
+in-at c (x ∷ xs) (suc i) h e = or-r (eqb x c) (isIn c xs) (in-at c xs i (omega arith) e)
+
+pub in-where : (c : ℕ) (l : List ℕ) → T (isIn c l) → (i : ℕ) × (i < length l) × (getD l i 0 ≡ c)
+unfolding isIn
+in-where c [] t = absurd t
+in-where c (x ∷ xs) t = go (or-e (eqb x c) (isIn c xs) t) (in-where c xs)
+  where
+    go : T (eqb x c) ⊎ T (isIn c xs) → (T (isIn c xs) → (i : ℕ) × (i < length xs) × (getD xs i 0 ≡ c)) → (i : ℕ) × (i < suc (length xs)) × (getD (x ∷ xs) i 0 ≡ c)
+    go (inl a) ih = (0, omega arith, eqb→eq x c a)
+    go (inr b) ih = let r : (i : ℕ) × (i < length xs) × (getD xs i 0 ≡ c) = ih b in (suc (r .0), omega arith, r .2)
+
+-- ---- parts of a list
+
+pub slice-snoc : (f t : ℕ) (l : List ℕ) → f ≤ t → t < length l → slice f (t + 1) l ≡ slice f t l ++ (getD l t 0 ∷ [])
+slice-snoc f t l h u =
+    ap (λ (n : ℕ). drop f (take n l)) (add-one t) ∙ ap (drop f) (take-suc l t 0 u)
+    ∙ drop-append-le f (take t l) (getD l t 0 ∷ []) (omega (arith, length-take-le t l (omega arith)))
+
+pub getD-slice : (f t : ℕ) (l : List ℕ) (i : ℕ) → f + i < t → getD (slice f t l) i 0 ≡ getD l (f + i) 0
+getD-slice f t l i h = getD-drop f (take t l) i 0 ∙ getD-take t l (f + i) 0 h
+
+pub in-empty : (c : ℕ) (t : ℕ) (l : List ℕ) → isIn c (slice t t l) ≡ false
+unfolding isIn
+in-empty c t l = ap (isIn c) (slice-empty t l)
+
+pub in-slice-at : (c f t : ℕ) (l : List ℕ) (k : ℕ) → t ≤ length l → f ≤ k → k < t → getD l k 0 ≡ c → T (isIn c (slice f t l))
+in-slice-at c f t l k h a b e =
+    in-at c (slice f t l) (k - f) (omega (arith, length-slice f t l h)) (getD-slice f t l (k - f) (omega arith) ∙ ap (λ (n : ℕ). getD l n 0) (omega arith) ∙ e)
+
+pub in-slice-where : (c f t : ℕ) (l : List ℕ) → t ≤ length l → T (isIn c (slice f t l)) → (k : ℕ) × (f ≤ k) × (k < t) × (getD l k 0 ≡ c)
+in-slice-where c f t l h m =
+    let r : (i : ℕ) × (i < length (slice f t l)) × (getD (slice f t l) i 0 ≡ c) = in-where c (slice f t l) m in
+    let b : f + r .0 < t = omega (arith, length-slice f t l h) in
+    (f + r .0, omega arith, b, sym (getD-slice f t l (r .0) b) ∙ r .2)
+
+-- ---- lists made by a rule
+
+pub length-listFrom : {A : Type 0} (f : ℕ → A) (k at : ℕ) → length (listFrom f k at) ≡ k
+unfolding listFrom
+length-listFrom f zero at = refl
+length-listFrom f (suc k) at = ap suc (length-listFrom f k (suc at))
+
+pub getD-listFrom : {A : Type 0} (f : ℕ → A) (k at j : ℕ) (d : A) → j < k → getD (listFrom f k at) j d ≡ f (at + j)
+unfolding listFrom
+getD-listFrom f zero at j d h = absurd (not-suc-le-zero h)
+getD-listFrom f (suc k) at zero d h = ap f (omega arith)
+getD-listFrom f (suc k) at (suc j) d h = getD-listFrom f k (suc at) j d (omega arith) ∙ ap f (omega arith)
+
+pub listFrom-cong : {A : Type 0} (f g : ℕ → A) (k at : ℕ) → ((i : ℕ) → at ≤ i → i < at + k → f i ≡ g i) → listFrom f k at ≡ listFrom g k at
+unfolding listFrom
+listFrom-cong f g zero at e = refl
+listFrom-cong f g (suc k) at e = ap₂ _∷_ (e at (omega arith) (omega arith)) (listFrom-cong f g k (suc at) (λ i l u. e i (omega arith) (omega arith)))
+
+-- ---- a loop that writes the list X over the front of a lent list o, one store a turn
+
+module _ {A : Type 0} (X o : List A) where
+  pub put-next : (out : List A) (i : ℕ) (v d : A) → i < length X → i < length o → out ≡ written i X o → v ≡ getD X i d → set out i v ≡ written (i + 1) X o
+  put-next out i v d hx ho e ev =
+      ap (λ (l : List A). set l i v) (e ∙ ap (λ (l : List A). take i X ++ l) (drop-cons o i d ho))
+      ∙ set-at (take i X) (getD o i d) (drop (suc i) o) v i (length-take-le i X (le-of-lt hx))
+      ∙ ap (λ (a : A). take i X ++ a ∷ drop (suc i) o) ev
+      ∙ sym (append-snoc (take i X) (getD X i d) (drop (suc i) o))
+      ∙ ap (λ (l : List A). l ++ drop (suc i) o) (sym (take-suc X i d hx))
+      ∙ ap (λ (n : ℕ). take n X ++ drop n o) (sym (add-one i))
+
+  pub put-end : (out : List A) (i : ℕ) → i ≡ length X → out ≡ written i X o → out ≡ over X o
+  put-end out i h e = e ∙ ap (λ (n : ℕ). take n X ++ drop n o) h ∙ ap (λ (l : List A). l ++ drop (length X) o) (take-all (length X) X (omega arith))
+
+  -- the whole of the lent list
+  pub put-whole : (out : List A) (i : ℕ) → length X ≡ length o → i ≡ length o → out ≡ written i X o → out ≡ X
+  put-whole out i h k e =
+      put-end out i (k ∙ sym h) e ∙ ap (λ (n : ℕ). X ++ drop n o) h ∙ ap (λ (l : List A). X ++ l) (drop-length o) ∙ append-nil X
+
+  pub put-length : (i : ℕ) → i ≤ length X → i ≤ length o → length (written i X o) ≡ length o
+  put-length i h k = simp (length-append, length-take, length-drop) (omega arith)
+
+-- what is still to come is as it was
+pub put-ahead : {A : Type 0} (X o : List A) (k : ℕ) (d : A) → k < length X → k < length o → getD (written k X o) k d ≡ getD o k d
+put-ahead [] o k d h l = absurd (not-suc-le-zero h)
+put-ahead (x ∷ X) [] k d h l = absurd (not-suc-le-zero l)
+put-ahead (x ∷ X) (y ∷ o) zero d h l = refl
+put-ahead (x ∷ X) (y ∷ o) (suc k) d h l = put-ahead X o k d (le-of-suc-le-suc h) (le-of-suc-le-suc l)
+
+-- writing on from what is written: an inner loop inside an outer one
+pub put-put : {A : Type 0} (X o : List A) (a b : ℕ) → a ≤ b → a ≤ length X → a ≤ length o → written b X (written a X o) ≡ written b X o
+put-put X o zero b h p q = refl
+put-put X o (suc a) zero h p q = absurd (not-suc-le-zero h)
+put-put [] o (suc a) (suc b) h p q = absurd (not-suc-le-zero p)
+put-put (x ∷ X) [] (suc a) (suc b) h p q = absurd (not-suc-le-zero q)
+put-put {A = A} (x ∷ X) (y ∷ o) (suc a) (suc b) h p q =
+    ap (λ (z : List A). x ∷ z) (put-put X o a b (le-of-suc-le-suc h) (le-of-suc-le-suc p) (le-of-suc-le-suc q))
+
+-- the list from n on has a head: what that says
+pub at-head : {A : Type 0} (l : List A) (n : ℕ) (x : A) (t : List A) (d : A) → drop n l ≡ x ∷ t → (n < length l) × (x ≡ getD l n d) × (drop (n + 1) l ≡ t)
+at-head {A = A} l n x t d e =
+    let h : n < length l = omega (arith, ap length e, length-drop n l) in (
+      h,
+      ap (λ (m : List A). getD m 0 d) (sym e ∙ drop-cons l n d h),
+      ap (λ (k : ℕ). drop k l) (add-one n) ∙ ap (drop 1) (sym (drop-cons l n d h) ∙ e),
+    )

@@ -1,0 +1,3 @@
+pub mod Checks
+pub mod Sets
+pub mod Lists

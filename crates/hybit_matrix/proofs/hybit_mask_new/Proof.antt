@@ -1,0 +1,25 @@
+-- `hybit_matrix::hybit_mask_new` meets its contract.  Assumes nothing.
+use mathlib.Core.Path.{_≡_, sym, ap, _∙_}
+use Rattle.hybit_matrix.specs.Flat.{flatChecked}
+use borrow.Author.Needs.{needs}
+use Rattle.hybit_matrix.proofs.hybit_mask_new.Statement.{statement}
+use Rattle.hybit_matrix.proofs.hybit_mask_new.Tie as tie
+use Rattle.hybit_matrix.proofs.hybit_mask_new.Reads as reads
+use Rattle.hybit_matrix.proofs.hybit_mask_new.Lts as lts
+use Rattle.hybit_matrix.proofs.flat_checked.Reads as flat-checked-reads
+use Rattle.mask.proofs.new.Reads as new-reads
+
+new-requires : tie.Need-new-requires
+new-requires c κs = search needs
+
+flat-checked-requires : tie.Need-flat-checked-requires
+flat-checked-requires c κs = search needs
+
+same-length : tie.Need-same-length
+same-length c = search needs
+
+returns : tie.Need-returns
+returns c = (c .flat-checked .ensures ∙ ap flatChecked (c .before .before .before .new .ensures .0), c .before .before .before .new .ensures .1)
+
+pub hybit-mask-new-spec : {M : Type 1} → statement M
+hybit-mask-new-spec = tie.close (tie.spec new-requires flat-checked-requires same-length returns)

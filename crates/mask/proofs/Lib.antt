@@ -1,0 +1,4 @@
+pub mod Masks
+pub mod Shape
+pub mod Stores
+pub mod Passes

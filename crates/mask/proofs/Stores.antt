@@ -1,0 +1,165 @@
+-- What one read or store at a word of a mask is, as a set. Assumes nothing.
+use mathlib.Core.Path.{_≡_, refl, sym, ap, ap₂, _∙_, subst}
+use mathlib.Core.Logic.{_⊎_, inl, inr, _≢_}
+use mathlib.Core.Bool.{Bool, true, false, not, cond, _&&_, _||_}
+use mathlib.Core.List.{List, [], _∷_, _++_}
+use Prim.Native.Nat.{ℕ, _+_, _-_, _*_, _/_, _%_, _^_, _≤_, _<_}
+use native.Mathlib.Omega.{arith}
+use native.Mathlib.Numerals.{add-one}
+use borrow.Author.Tests.{eq-eqb, ne-eqb, lt-ltb, le-ltb}
+use lib.Bits.{bitAnd, bitOr}
+use lib.Dec.{T, ltb, eqb, eqb→eq}
+use lib.ListN.{length, getD, set, take}
+use lib.Seq.{take-suc}
+use Rattle.base.specs.Lists.{isIn}
+use Rattle.base.proofs.Bools.{lt-or-le, eq-or-ne, or-false}
+use Rattle.base.proofs.Lists.{in-snoc}
+use Rattle.word.specs.Bits.{bitAt, wordFrom, wordOf}
+use Rattle.word.proofs.Bits.{one-shl, bit-test}
+use Rattle.word.proofs.Words.{word-ext, word-of-bits, word-op, or-bitwise, and-bitwise, and-not-bitwise, word-one, word-below}
+use Rattle.mask.specs.Mask.{inMask, wordsFor, maskWords, IsMask}
+use Rattle.mask.specs.Answers.{withNode, withWord}
+use Rattle.mask.proofs.Masks.{within, past, mask-cong, mask-holds, is-length, is-word, mask-store}
+
+-- reading a node
+pub bit-read : (words : List ℕ) (i : ℕ) → not (eqb (bitAnd (getD words (i / 64) 0) ((1 * 2 ^ (i % 64)) % 2 ^ 64)) 0) ≡ inMask words i
+unfolding inMask
+bit-read words i =
+    ap (λ (x : ℕ). not (eqb (bitAnd (getD words (i / 64) 0) x) 0)) (one-shl (i % 64) (omega arith)) ∙ bit-test (getD words (i / 64) 0) (i % 64)
+
+-- node i's own bit, as a word
+node-word : (i : ℕ) → (1 * 2 ^ (i % 64)) % 2 ^ 64 ≡ wordOf (λ j. eqb j i) (i / 64)
+node-word i =
+    let e : 64 * (i / 64) + i % 64 ≡ i = omega arith in
+    one-shl (i % 64) (omega arith) ∙ sym (word-one (64 * (i / 64)) (i % 64) 64 (omega arith))
+    ∙ ap (λ (n : ℕ). wordOf (λ j. eqb j n) (i / 64)) e
+
+module _ (len : ℕ) (words : List ℕ) (m : IsMask len words) where
+  abbrev held : ℕ → Bool
+  held i = ltb i len && inMask words i
+
+  -- a store at word w that makes it the word of the set r
+  stored : (r : ℕ → Bool) (w x : ℕ) → w < length words → x ≡ wordOf (λ i. ltb i len && r i) w → ((i : ℕ) → i < len → i / 64 ≢ w → inMask words i ≡ r i)
+      → set words w x ≡ maskWords len r
+  stored r w x h e other =
+      ap (λ (l : List ℕ). set l w x) (m .exact) ∙ mask-store len (inMask words) r w x (omega (arith, is-length len words m)) e other
+
+  module _ (i : ℕ) (below : i < len) where
+    room : i / 64 < length words
+    room = omega (arith, is-length len words m)
+
+    away : (v : Bool) (j : ℕ) → j < len → j / 64 ≢ i / 64 → inMask words j ≡ cond (eqb j i) v (inMask words j)
+    away v j h n = sym (ap (λ (t : Bool). cond t v (inMask words j)) (ne-eqb j i (λ e. n (ap (λ (x : ℕ). x / 64) e))))
+
+    -- node i is set
+    pub put-in : set words (i / 64) (bitOr (getD words (i / 64) 0) ((1 * 2 ^ (i % 64)) % 2 ^ 64)) ≡ withNode len words i true
+    put-in =
+        stored (λ j. cond (eqb j i) true (inMask words j)) (i / 64) (bitOr (getD words (i / 64) 0) ((1 * 2 ^ (i % 64)) % 2 ^ 64)) room
+        (ap₂ bitOr (is-word len words m (i / 64) room) (node-word i)
+        ∙ word-op 64 bitOr (λ s t. s || t) (or-bitwise 64) held (λ j. eqb j i) (64 * (i / 64))
+        ∙ word-ext (λ j. held j || eqb j i) (λ j. ltb j len && cond (eqb j i) true (inMask words j)) 64 (64 * (i / 64)) (λ j l u. same j (eq-or-ne j i)))
+        (away true)
+      where
+        hit : (a b : Bool) → ((a && b) || true) ≡ (true && true)
+        hit true true = refl
+        hit true false = refl
+        hit false b = refl
+
+        same : (j : ℕ) → (j ≡ i) ⊎ (j ≡ i → ⊥) → (held j || eqb j i) ≡ (ltb j len && cond (eqb j i) true (inMask words j))
+        same j (inl e) =
+            ap (λ (t : Bool). held j || t) (eq-eqb j i e) ∙ hit (ltb j len) (inMask words j)
+            ∙ sym (ap₂ (λ (s t : Bool). s && cond t true (inMask words j)) (lt-ltb j len (omega arith)) (eq-eqb j i e))
+        same j (inr n) =
+            ap (λ (t : Bool). held j || t) (ne-eqb j i n) ∙ or-false (held j)
+            ∙ sym (ap (λ (t : Bool). ltb j len && cond t true (inMask words j)) (ne-eqb j i n))
+
+    -- node i is cleared
+    pub put-out : set words (i / 64) (bitAnd (getD words (i / 64) 0) (2 ^ 64 - 1 - (1 * 2 ^ (i % 64)) % 2 ^ 64)) ≡ withNode len words i false
+    put-out =
+        stored (λ j. cond (eqb j i) false (inMask words j)) (i / 64) (bitAnd (getD words (i / 64) 0) (2 ^ 64 - 1 - (1 * 2 ^ (i % 64)) % 2 ^ 64)) room
+        (ap₂ (λ (a b : ℕ). bitAnd a (2 ^ 64 - 1 - b)) (is-word len words m (i / 64) room) (node-word i)
+        ∙ word-op 64 (λ a b. bitAnd a (2 ^ 64 - 1 - b)) (λ s t. s && not t) (and-not-bitwise 64) held (λ j. eqb j i) (64 * (i / 64))
+        ∙ word-ext (λ j. held j && not (eqb j i)) (λ j. ltb j len && cond (eqb j i) false (inMask words j)) 64 (64 * (i / 64))
+        (λ j l u. same (ltb j len) (inMask words j) (eqb j i)))
+        (away false)
+      where
+        same : (a b t : Bool) → ((a && b) && not t) ≡ (a && cond t false b)
+        same true true true = refl
+        same true true false = refl
+        same true false true = refl
+        same true false false = refl
+        same false b t = refl
+
+  -- `words[w] |= bits & valid`, valid being the bits below the length
+  pub or-in : (w bits valid : ℕ) → w < length words → bits < 2 ^ 64 → valid ≡ wordOf (λ i. ltb i len) w
+      → set words w (bitOr (getD words w 0) (bitAnd bits valid)) ≡ withWord len words w bits
+  or-in w bits valid h fits e =
+      stored (λ i. inMask words i || (eqb (i / 64) w && bitAt bits (i % 64))) w (bitOr (getD words w 0) (bitAnd bits valid)) h
+      (ap₂ bitOr (is-word len words m w h)
+      (ap₂ bitAnd (sym own) e ∙ word-op 64 bitAnd (λ s t. s && t) (and-bitwise 64) (λ i. bitAt bits (i % 64)) (λ i. ltb i len) (64 * w))
+      ∙ word-op 64 bitOr (λ s t. s || t) (or-bitwise 64) held (λ i. bitAt bits (i % 64) && ltb i len) (64 * w)
+      ∙ word-ext (λ i. held i || (bitAt bits (i % 64) && ltb i len)) (λ i. ltb i len && (inMask words i || (eqb (i / 64) w && bitAt bits (i % 64)))) 64 (64 * w)
+      (λ i l u. same (ltb i len) (inMask words i) (bitAt bits (i % 64)) ∙ ap (λ (t : Bool). ltb i len && (inMask words i || (t && bitAt bits (i % 64)))) (sym (here i l u))))
+      (λ i l n. sym (ap (λ (t : Bool). inMask words i || (t && bitAt bits (i % 64))) (ne-eqb (i / 64) w n) ∙ or-false (inMask words i)))
+    where
+      own : wordOf (λ i. bitAt bits (i % 64)) w ≡ bits
+      own = word-of-bits (λ i. bitAt bits (i % 64)) 64 (64 * w) bits fits (λ j l. ap (bitAt bits) (omega arith))
+
+      here : (i : ℕ) → 64 * w ≤ i → i < 64 * w + 64 → eqb (i / 64) w ≡ true
+      here i l u = let e : i / 64 ≡ w = omega arith in eq-eqb (i / 64) w e
+
+      same : (a b t : Bool) → ((a && b) || (t && a)) ≡ (a && (b || (true && t)))
+      same true true t = refl
+      same true false true = refl
+      same true false false = refl
+      same false b true = refl
+      same false b false = refl
+
+  -- a word past the words changes nothing
+  pub or-past : (w bits : ℕ) → length words ≤ w → words ≡ withWord len words w bits
+  or-past w bits h =
+      m .exact
+      ∙ mask-cong len (inMask words) (λ i. inMask words i || (eqb (i / 64) w && bitAt bits (i % 64)))
+      (λ i l. sym (ap (λ (t : Bool). inMask words i || (t && bitAt bits (i % 64))) (ne-eqb (i / 64) w (λ e. omega (arith, is-length len words m))) ∙ or-false (inMask words i)))
+
+-- no node yet
+pub fill-none : (len : ℕ) (l : List ℕ) → maskWords len (λ i. false) ≡ maskWords len (λ i. isIn i (take 0 l))
+unfolding isIn
+fill-none len l = refl
+
+-- one node more
+pub fill-turn : (len : ℕ) (l : List ℕ) (k : ℕ) → k < length l
+    → withNode len (maskWords len (λ i. isIn i (take k l))) (getD l k 0) true ≡ maskWords len (λ i. isIn i (take (k + 1) l))
+fill-turn len l k h =
+    mask-cong len (λ j. cond (eqb j (getD l k 0)) true (inMask (maskWords len (λ i. isIn i (take k l))) j)) (λ i. isIn i (take (k + 1) l))
+    (λ i u. ap (cond (eqb i (getD l k 0)) true) (mask-holds len (λ i. isIn i (take k l)) i u) ∙ turn i)
+  where
+    swap : (a b : ℕ) → eqb a b ≡ eqb b a
+    swap a b = go (eq-or-ne a b)
+      where
+        go : (a ≡ b) ⊎ (a ≡ b → ⊥) → eqb a b ≡ eqb b a
+        go (inl e) = eq-eqb a b e ∙ sym (eq-eqb b a (sym e))
+        go (inr n) = ne-eqb a b n ∙ sym (ne-eqb b a (λ e. n (sym e)))
+
+    choose : (t b : Bool) → cond t true b ≡ (b || t)
+    choose true true = refl
+    choose true false = refl
+    choose false true = refl
+    choose false false = refl
+
+    turn : (i : ℕ) → cond (eqb i (getD l k 0)) true (isIn i (take k l)) ≡ isIn i (take (k + 1) l)
+    turn i =
+        choose (eqb i (getD l k 0)) (isIn i (take k l)) ∙ ap (λ (t : Bool). isIn i (take k l) || t) (swap i (getD l k 0))
+        ∙ sym (in-snoc i (take k l) (getD l k 0)) ∙ ap (isIn i) (sym (take-suc l k 0 h) ∙ ap (λ (n : ℕ). take n l) (sym (add-one k)))
+
+-- the bits of word w below the length
+pub valid-all : (len w : ℕ) → 64 ≤ len - w * 64 → 2 ^ 64 - 1 ≡ wordOf (λ i. ltb i len) w
+valid-all len w h =
+    sym (word-below (64 * w) 64 64 (omega arith))
+    ∙ word-ext (λ i. ltb i (64 * w + 64)) (λ i. ltb i len) 64 (64 * w) (λ i l u. lt-ltb i (64 * w + 64) u ∙ sym (lt-ltb i len (omega arith)))
+
+pub valid-part : (len w : ℕ) → w < wordsFor len → len - w * 64 < 64 → (1 * 2 ^ (len - w * 64)) % 2 ^ 64 - 1 ≡ wordOf (λ i. ltb i len) w
+valid-part len w l h =
+    let e : 64 * w + (len - w * 64) ≡ len = omega arith in
+    ap (λ (x : ℕ). x - 1) (one-shl (len - w * 64) h)
+    ∙ sym (word-below (64 * w) (len - w * 64) 64 (omega arith)) ∙ ap (λ (n : ℕ). wordOf (λ i. ltb i n) w) e

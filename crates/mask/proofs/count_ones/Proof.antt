@@ -1,0 +1,48 @@
+-- `mask::count_ones` meets its contract.  Assumes nothing.
+use mathlib.Core.Path.{_≡_, refl, sym, ap, _∙_}
+use Prim.Native.Nat.{ℕ, _+_, _-_, _*_, _/_, _%_, _^_, _≤_, _<_}
+use native.Mathlib.Omega.{arith}
+use borrow.Author.Tests.{lt-ltb, le-ltb, le-leb, lt-leb}
+use lib.ListN.{length, getD}
+use Rattle.base.specs.declared.Checked.{Checked}
+use Rattle.base.proofs.Checks.{on-accepted, on-refused}
+use Rattle.mask.specs.Mask.{inMask, maskCheck, IsMask}
+use Rattle.mask.specs.declared.Counted.{Counted}
+use Rattle.mask.proofs.Masks.{accepted-mask}
+use borrow.Author.Needs.{needs}
+use Rattle.mask.proofs.count_ones.Statement.{statement}
+use Rattle.mask.proofs.count_ones.Tie as tie
+use Rattle.mask.proofs.count_ones.Reads as reads
+use Rattle.mask.proofs.count_ones.Lts as lts
+use Rattle.mask.proofs.check.Reads as check-reads
+use Rattle.mask.proofs.inner.count.Reads as count-reads
+
+check-requires : tie.Need-check-requires
+check-requires c κs = search needs
+
+enum-known-checked : tie.Need-enum-known-checked
+enum-known-checked c = search needs
+
+enum-told : tie.Need-enum-told
+enum-told c = search needs
+
+-- in this arm the mask is accepted
+ok : (c : tie.After-enum-told) → maskCheck (c .before .before .before .before .args .len) (c .before .before .before .before .args .words .now) ≡ Checked.Accepted
+ok c = sym (c .before .before .check .ensures) ∙ c .enum-told .given .1
+
+mask : (c : tie.After-enum-told) → IsMask (c .before .before .before .before .args .len) (c .before .before .before .before .args .words .now)
+mask c = accepted-mask _ _ (λ w. omega (arith, c .before .before .before .shared-slice-known .given w)) (ok c)
+
+count-requires : tie.Need-count-requires
+count-requires c κs = mask c
+
+returns : tie.Need-returns
+returns c = on-refused _ _ _ _ (sym (c .before .before .before .check .ensures) ∙ c .before .checked .given .1)
+
+returns-2 : tie.Need-returns-2
+returns-2 c = on-accepted _ _ _ _ (ok (c .before)) (ap Counted.Count (c .count .ensures))
+
+pub count-ones-spec : {M : Type 1} → statement M
+count-ones-spec =
+    tie.close
+    (tie.spec check-requires enum-known-checked enum-told count-requires returns returns-2)

@@ -1,0 +1,49 @@
+-- `mask::is_empty` meets its contract.  Assumes nothing.
+use mathlib.Core.Path.{_≡_, refl, sym, ap, _∙_}
+use Prim.Native.Nat.{ℕ, _+_, _-_, _*_, _/_, _%_, _^_, _≤_, _<_}
+use native.Mathlib.Omega.{arith}
+use borrow.Author.Tests.{lt-ltb, le-ltb, le-leb, lt-leb}
+use lib.ListN.{length, getD}
+use Rattle.base.specs.declared.Checked.{Checked}
+use mathlib.Core.Bool.{Bool, not}
+use Rattle.base.proofs.Checks.{on-accepted, on-refused}
+use Rattle.mask.specs.Mask.{inMask, maskCheck, IsMask}
+use Rattle.mask.specs.declared.Truth.{Truth}
+use Rattle.mask.proofs.Masks.{accepted-mask}
+use borrow.Author.Needs.{needs}
+use Rattle.mask.proofs.is_empty.Statement.{statement}
+use Rattle.mask.proofs.is_empty.Tie as tie
+use Rattle.mask.proofs.is_empty.Reads as reads
+use Rattle.mask.proofs.is_empty.Lts as lts
+use Rattle.mask.proofs.check.Reads as check-reads
+use Rattle.mask.proofs.inner.any_node.Reads as any-node-reads
+
+check-requires : tie.Need-check-requires
+check-requires c κs = search needs
+
+enum-known-checked : tie.Need-enum-known-checked
+enum-known-checked c = search needs
+
+enum-told : tie.Need-enum-told
+enum-told c = search needs
+
+-- in this arm the mask is accepted
+ok : (c : tie.After-enum-told) → maskCheck (c .before .before .before .before .args .len) (c .before .before .before .before .args .words .now) ≡ Checked.Accepted
+ok c = sym (c .before .before .check .ensures) ∙ c .enum-told .given .1
+
+mask : (c : tie.After-enum-told) → IsMask (c .before .before .before .before .args .len) (c .before .before .before .before .args .words .now)
+mask c = accepted-mask _ _ (λ w. omega (arith, c .before .before .before .shared-slice-known .given w)) (ok c)
+
+any-node-requires : tie.Need-any-node-requires
+any-node-requires c κs = mask c
+
+returns : tie.Need-returns
+returns c = on-refused _ _ _ _ (sym (c .before .before .before .check .ensures) ∙ c .before .checked .given .1)
+
+returns-2 : tie.Need-returns-2
+returns-2 c = on-accepted _ _ _ _ (ok (c .before)) (ap (λ (b : Bool). Truth.Is (not b)) (c .any-node .ensures))
+
+pub is-empty-spec : {M : Type 1} → statement M
+is-empty-spec =
+    tie.close
+    (tie.spec check-requires enum-known-checked enum-told any-node-requires returns returns-2)

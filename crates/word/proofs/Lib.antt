@@ -1,0 +1,4 @@
+pub mod Bits
+pub mod Words
+pub mod Answers
+pub mod Worked

@@ -1,0 +1,6 @@
+#[path = "../source.rs"]
+mod source;
+
+fn main() {
+    source::write_root(&source::folder());
+}

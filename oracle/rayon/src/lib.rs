@@ -1,0 +1,24 @@
+//! Stand-in for the crate rayon: the same calls, run one after the other.
+
+pub fn current_num_threads() -> usize {
+    1
+}
+
+pub mod prelude {
+    use std::slice::{ChunksMut, IterMut};
+
+    pub trait ParallelSliceMut<T> {
+        fn par_iter_mut(&mut self) -> IterMut<'_, T>;
+        fn par_chunks_mut(&mut self, size: usize) -> ChunksMut<'_, T>;
+    }
+
+    impl<T> ParallelSliceMut<T> for [T] {
+        fn par_iter_mut(&mut self) -> IterMut<'_, T> {
+            self.iter_mut()
+        }
+
+        fn par_chunks_mut(&mut self, size: usize) -> ChunksMut<'_, T> {
+            self.chunks_mut(size)
+        }
+    }
+}
