@@ -1,0 +1,19 @@
+-- `replay_foundations::byte_at` meets its contract.  Assumes nothing.
+use native.Mathlib.Omega.{arith}
+use borrow.Author.Needs.{needs}
+use Rattle.replay_foundations.proofs.byte_at.Statement.{statement}
+use Rattle.replay_foundations.proofs.byte_at.Tie as tie
+use Rattle.replay_foundations.proofs.byte_at.Reads as reads
+use Rattle.replay_foundations.proofs.byte_at.Lts as lts
+
+shared-slice-read-result : tie.Need-shared-slice-read-result
+shared-slice-read-result c = search needs
+
+cast-result : tie.Need-cast-result
+cast-result c = omega (arith, c .shared-slice-known .given (c .before .args .at))
+
+returns : tie.Need-returns
+returns c = omega (arith, c .shared-slice-known .given (c .before .args .at))
+
+pub byte-at-spec : {M : Type 1} → statement M
+byte-at-spec = tie.close (tie.spec shared-slice-read-result cast-result returns)
