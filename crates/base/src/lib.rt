@@ -36,16 +36,6 @@ impl Refusal {
             actual: 0,
         }
     }
-
-    pub fn wrong_length(expected: u64, actual: u64) -> Self
-        ensures { λ r. ⌜ r ≡ wrongLength expected actual ⌝ }
-    {
-        Self {
-            number: 11,
-            expected,
-            actual,
-        }
-    }
 }
 
 pub fn refused(number: u32) -> Checked

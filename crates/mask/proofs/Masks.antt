@@ -8,7 +8,7 @@ use Prim.Native.Nat.{ℕ, zero, suc, _+_, _-_, _*_, _/_, _%_, _^_, _≤_, _<_}
 use native.Mathlib.Omega.{arith}
 use native.Mathlib.Nat.{zero-add, add-zero, le-refl, div-eq-of-lt}
 use native.Mathlib.Decide.{ℕ-discrete}
-use borrow.Author.Tests.{lt-ltb, le-ltb, eq-eqb, ne-eqb, leb-true, ltb-true}
+use borrow.Author.Tests.{lt-ltb, le-ltb, le-leb, eq-eqb, leb-true}
 use lib.Bits.{bitAnd, bitOr}
 use lib.Count.{ones}
 use lib.Dec.{T, ltb, leb, eqb, lt→ltb, ltb→lt, eqb→eq}
@@ -19,8 +19,8 @@ use Rattle.base.specs.Checks.{must, mustBe, _then_, sideLimit}
 use Rattle.base.specs.Lists.{listFrom}
 use Rattle.base.specs.Sets.{anyBelow, everyBelow, countBelow, membersFrom, membersBelow}
 use Rattle.base.specs.declared.Checked.{Checked}
-use Rattle.base.proofs.Bools.{bool-ext, decide, and-l, and-r, and-i, or-l, or-r, or-e, T-true, T-false, T-of, not-T-of}
-use Rattle.base.proofs.Checks.{passed, length-passed, both-passed}
+use Rattle.base.proofs.Bools.{decide, and-l, and-r, or-l, or-r, or-e, T-true, T-false, T-of, lt-or-le}
+use Rattle.base.proofs.Checks.{pass, last-pass, length-pass, passed, length-passed, both-passed}
 use Rattle.base.proofs.Lists.{length-listFrom, getD-listFrom, listFrom-cong}
 use Rattle.base.proofs.Sets.{every-i, every-e}
 use Rattle.word.specs.Bits.{bitAt, setBits, wordFrom, wordOf}
@@ -130,6 +130,24 @@ accepted-pair len words len2 other fits fits2 e =
 -- the words of a set are an accepted mask
 pub mask-is : (len : ℕ) (p : ℕ → Bool) → len ≤ sideLimit → IsMask len (maskWords len p)
 mask-is len p h = record { short = h; exact = mask-cong len p (inMask (maskWords len p)) (λ i l. sym (mask-holds len p i l)) }
+
+-- and the check says so: what one call leaves, the next accepts
+pub mask-accepted : (len : ℕ) (p : ℕ → Bool) → len ≤ sideLimit → maskCheck len (maskWords len p) ≡ Checked.Accepted
+unfolding maskCheck shapeCheck clean
+mask-accepted len p h =
+    sym
+    (pass _ _ _ _ (le-leb len sideLimit h)
+    (length-pass _ _ _ _ (eq-eqb _ _ (mask-length len p))
+    (last-pass _ _ _
+    (T-true (everyBelow (64 * length (maskWords len p)) (λ i. ltb i len || not (inMask (maskWords len p) i)))
+    (every-i (64 * length (maskWords len p)) (λ i. ltb i len || not (inMask (maskWords len p) i)) (λ i l. go i l (lt-or-le i len))))
+    refl)))
+  where
+    go : (i : ℕ) → i < 64 * length (maskWords len p) → (i < len) ⊎ (len ≤ i) → T (ltb i len || not (inMask (maskWords len p) i))
+    go i l (inl b) = or-l (ltb i len) (not (inMask (maskWords len p) i)) (lt→ltb i len b)
+    go i l (inr b) =
+        or-r (ltb i len) (not (inMask (maskWords len p) i))
+        (T-of (not (inMask (maskWords len p) i)) (ap not (mask-past len p i b (omega (arith, mask-length len p)))))
 
 module _ (len : ℕ) (words : List ℕ) (m : IsMask len words) where
   pub is-length : length words ≡ wordsFor len

@@ -94,7 +94,8 @@ impl AbtmTopologyWord {
             return Ranked::At(self.popcount());
         }
         let below = (1u64 << offset) - 1;
-        Ranked::At(u64::count_ones(self.mask & below) as usize)
+        let count = u64::count_ones(self.mask & below) as usize;
+        Ranked::At(count)
     }
 
     pub fn select(self, ordinal: usize) -> Selected

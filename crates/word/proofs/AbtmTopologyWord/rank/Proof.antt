@@ -25,11 +25,11 @@ shl-below c = search needs
 sub-below : tie.Need-sub-below
 sub-below c = shl-pos _ (search needs)
 
-cast-t10 : tie.Need-cast-t10
-cast-t10 c = rank-fits (c .before .before .before .args .self .mask) _ (search needs)
+cast-count : tie.Need-cast-count
+cast-count c = rank-fits (c .before .before .before .args .self .mask) _ (search needs)
 
 returns-3 : tie.Need-returns-3
 returns-3 c = rank-in _ (c .before .before .before .args .offset) (search needs)
 
 pub rank-spec : {M : Type 1} → statement M
-rank-spec = tie.close (tie.spec plain-requires returns popcount-requires returns-2 shl-below sub-below cast-t10 returns-3)
+rank-spec = tie.close (tie.spec plain-requires returns popcount-requires returns-2 shl-below sub-below cast-count returns-3)

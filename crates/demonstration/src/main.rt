@@ -1,0 +1,121 @@
+// Prints document 01's own examples of words, matrices and masks, as the port answers them.
+use hybit_matrix::Answer;
+use libc::STDOUT_FILENO;
+
+fn show(what: &[u8], a: Answer) {
+    io::write_all(STDOUT_FILENO, what);
+    if a.number != 0 {
+        io::write_all(STDOUT_FILENO, b": refused ");
+        io::print_decimal(STDOUT_FILENO, a.number as u64);
+        if a.number == 11 {
+            io::write_all(STDOUT_FILENO, b", expected ");
+            io::print_decimal(STDOUT_FILENO, a.expected);
+            io::write_all(STDOUT_FILENO, b", actual ");
+            io::print_decimal(STDOUT_FILENO, a.actual);
+        }
+    } else if a.present {
+        io::write_all(STDOUT_FILENO, b": ");
+        io::print_decimal(STDOUT_FILENO, a.value);
+    } else {
+        io::write_all(STDOUT_FILENO, b": none");
+    }
+    io::write_all(STDOUT_FILENO, b"\n");
+}
+
+// The same of a call that answers acceptance only.
+fn show_check(what: &[u8], a: Answer) {
+    if a.number == 0 {
+        io::write_all(STDOUT_FILENO, what);
+        io::write_all(STDOUT_FILENO, b": accepted\n");
+    } else {
+        show(what, a);
+    }
+}
+
+fn words() {
+    show(b"word 22, rank 2", hybit_matrix::hybit_word_rank(0, 22, 2));
+    show(
+        b"word 22, rank 64",
+        hybit_matrix::hybit_word_rank(0, 22, 64),
+    );
+    show(
+        b"word 22, rank 65",
+        hybit_matrix::hybit_word_rank(0, 22, 65),
+    );
+    show(
+        b"word 22, select 2",
+        hybit_matrix::hybit_word_select(0, 22, 2),
+    );
+    show(
+        b"word 22, select 3",
+        hybit_matrix::hybit_word_select(0, 22, 3),
+    );
+}
+
+fn matrix(what: &[u8], nrows: usize, row_ptr: &[u32], col_idx: &[u32], values: &[f64]) {
+    show_check(
+        what,
+        hybit_matrix::hybit_csr32_validate(nrows, 3, row_ptr, col_idx, values),
+    );
+}
+
+fn matrices() {
+    matrix(
+        b"matrix with entries (0,1), (1,2)",
+        3,
+        &[0, 1, 2, 2],
+        &[1, 2],
+        &[1.0, 1.0],
+    );
+    matrix(b"nrows 1,048,577", 1048577, &[0], &[], &[]);
+    matrix(b"nrows 2, row_ptr 0,1", 2, &[0, 1], &[0], &[1.0]);
+    matrix(b"cols 0, no values", 1, &[0, 1], &[0], &[]);
+    matrix(b"row_ptr 1,1", 1, &[1, 1], &[0], &[1.0]);
+    matrix(b"row_ptr 0,2 with one entry", 1, &[0, 2], &[0], &[1.0]);
+    matrix(b"row_ptr 0,2,1 with one entry", 2, &[0, 2, 1], &[0], &[1.0]);
+    matrix(b"column 3 of 3", 1, &[0, 1], &[3], &[1.0]);
+    matrix(b"value infinity", 1, &[0, 1], &[0], &[1.0 / 0.0]);
+}
+
+fn masks() {
+    let mut words = [0u64; 2];
+    show_check(
+        b"mask of 65 nodes from 3, 64",
+        hybit_matrix::hybit_mask_from_indices(65, &[3, 64], &mut words),
+    );
+    show(
+        b"its count",
+        hybit_matrix::hybit_mask_count_ones(65, &words),
+    );
+    show(
+        b"it holds 64",
+        hybit_matrix::hybit_mask_contains(65, &words, 64),
+    );
+    show(
+        b"it holds 65",
+        hybit_matrix::hybit_mask_contains(65, &words, 65),
+    );
+    show(
+        b"mask 4, side 3",
+        hybit_matrix::hybit_mask_intersects(3, &[1], 4, &[1]),
+    );
+    show_check(
+        b"length 65, second word 2",
+        hybit_matrix::hybit_mask_check(65, &[0, 2]),
+    );
+    let mut three = [0u64; 1];
+    show_check(
+        b"set bit 3 of 3",
+        hybit_matrix::hybit_mask_set(3, &mut three, 3, true),
+    );
+    show_check(
+        b"output of one word, 65 nodes",
+        hybit_matrix::hybit_mask_new(65, &mut three),
+    );
+}
+
+fn main() {
+    words();
+    matrices();
+    masks();
+}
