@@ -4,13 +4,13 @@ use mathlib.Core.Bool.{Bool, true, false, _&&_, _||_}
 use mathlib.Core.List.{List, [], _∷_, _++_, append-nil}
 use mathlib.Core.Logic.{_⊎_, inl, inr}
 use Prim.Native.Nat.{ℕ, zero, suc, _+_, _-_, _≤_, _<_}
-use native.Mathlib.Nat.{le-of-suc-le-suc, not-suc-le-zero, le-of-lt, zero-add, add-zero}
+use native.Mathlib.Nat.{le-of-suc-le-suc, not-suc-le-zero, le-of-lt}
 use native.Mathlib.Numerals.{add-one}
 use native.Mathlib.Omega.{arith}
 use borrow.Author.Tests.{eq-eqb}
 use lib.Dec.{T, eqb, eqb→eq}
-use lib.ListN.{length, getD, set, take, drop, drop-of-length-le, length-append, length-take, length-drop, length-set}
-use lib.Seq.{slice, drop-cons, take-suc, length-take-le, set-at, append-snoc, take-all, take-length, drop-length, getD-drop, getD-take, length-slice, slice-empty, drop-append-le}
+use lib.ListN.{length, getD, set, take, drop, drop-of-length-le, length-append, length-take, length-drop}
+use lib.Seq.{slice, drop-cons, take-suc, length-take-le, set-at, append-snoc, take-all, drop-length, getD-drop, getD-take, length-slice, slice-empty, drop-append-le}
 use Rattle.base.specs.Lists.{every, pairwise, isIn, listFrom, written, over}
 use Rattle.base.proofs.Bools.{or-l, or-r, or-e, or-false, T-of}
 

@@ -9,10 +9,10 @@ use native.Mathlib.Nat.{not-suc-le-zero, zero-add, add-zero, add-suc, suc-add, l
 use native.Mathlib.Numerals.{add-one}
 use native.Mathlib.Decide.{ℕ-discrete}
 use lib.Dec.{T}
-use lib.ListN.{length, getD, length-append, length-map}
+use lib.ListN.{length, getD}
 use Rattle.base.specs.Lists.{every}
 use Rattle.base.specs.Sets.{anyBelow, everyBelow, sumBelow, one-if, countBelow, sumOver, keep, membersFrom, membersBelow}
-use Rattle.base.proofs.Bools.{bool-ext, decide, and-l, and-r, and-i, or-l, or-r, or-e, T-true, T-false, T-of}
+use Rattle.base.proofs.Bools.{decide, and-l, and-r, and-i, or-l, or-r, or-e, T-true, T-false, T-of}
 
 -- ---- any
 

@@ -1,11 +1,11 @@
 -- x - x is 0 exactly for a finite x. Assumes nothing.
-use mathlib.Core.Path.{_≡_, refl, sym, ap, _∙_, subst}
-use mathlib.Core.Bool.{Bool, true, false, not, _&&_, cond}
-use Prim.Native.Nat.{ℕ, zero, suc, _+_, _-_, _*_, _/_, _%_, _^_, _<_, compare, Ordering, Ordering·lt, compare·zero-suc}
+use mathlib.Core.Path.{_≡_, refl, ap, _∙_}
+use mathlib.Core.Bool.{Bool, true, false, not, cond}
+use Prim.Native.Nat.{ℕ, zero, suc, _-_, _*_, _%_, _<_, compare, Ordering, Ordering·lt, compare·zero-suc}
 use native.Mathlib.Nat.{zero-div, zero-mod, sub-self, mul-pos, mul-one, lt-irrefl, le-refl}
 use borrow.Author.Tests.{le-ltb}
-use lib.IntN.{ℤ, pos}
-use lib.Ieee.{Float, nan, inf, fin, Format, binary64, add, sub, neg, sum, eq, ofBits, up, down, round, size, nearest, units}
+use lib.IntN.{pos}
+use lib.Ieee.{Float, nan, inf, fin, binary64, add, sub, sum, eq, ofBits, up, down, round, size, nearest, units}
 use lib.Ieee.Fits.{core, round-is, down-pos}
 use Rattle.csr32.specs.Matrix.{finite}
 

@@ -1,18 +1,18 @@
 -- What an accepted matrix gives, and the laws of `stored`. Assumes nothing.
-use mathlib.Core.Path.{_≡_, refl, sym, ap, ap₂, _∙_, subst}
-use mathlib.Core.Bool.{Bool, true, false}
+use mathlib.Core.Path.{_≡_, sym, ap, _∙_, subst}
+use mathlib.Core.Bool.{true}
 use mathlib.Core.List.{List, []}
 use mathlib.Core.Logic.{_⊎_, inl, inr}
 use Prim.Native.Nat.{ℕ, zero, suc, _+_, _-_, _≤_, _<_}
 use native.Mathlib.Nat.{le-refl}
 use native.Mathlib.Omega.{arith}
 use borrow.Author.Tests.{leb-true, eqb-true, ltb-true}
-use lib.Dec.{T, leb, ltb, eqb}
+use lib.Dec.{T, leb}
 use lib.Ieee.{Float, nan}
 use lib.ListN.{length, getD, List·getD-eq-default}
 use lib.Seq.{slice, drop-nil}
-use Rattle.base.specs.Checks.{must, _then_, sideLimit, entryLimit}
-use Rattle.base.specs.Lists.{every, rising, below, isIn}
+use Rattle.base.specs.Checks.{sideLimit, entryLimit}
+use Rattle.base.specs.Lists.{below, isIn}
 use Rattle.base.specs.declared.Checked.{Checked}
 use Rattle.base.proofs.Bools.{lt-or-le}
 use Rattle.base.proofs.Checks.{passed, both-passed}

@@ -1,5 +1,5 @@
 -- Each call's answer as the flat record that crosses the C boundary.
-use mathlib.Core.Bool.{Bool, true, false}
+use mathlib.Core.Bool.{true, false}
 use Prim.Native.Nat.{ℕ}
 use Rattle.base.specs.Sets.{one-if}
 use Rattle.base.specs.declared.Refusal.{Refusal}

@@ -2,30 +2,25 @@
 -- Assumes nothing.
 use mathlib.Core.Path.{_≡_, refl, sym, ap, ap₂, _∙_, subst}
 use mathlib.Core.Logic.{_⊎_, inl, inr, _≢_}
-use mathlib.Core.Bool.{Bool, true, false, not, cond, _&&_, _||_}
-use mathlib.Core.List.{List, [], _∷_, _++_, map}
-use Prim.Native.Nat.{ℕ, zero, suc, _+_, _-_, _*_, _/_, _%_, _^_, _≤_, _<_}
+use mathlib.Core.Bool.{Bool, true, false, not, _&&_, _||_}
+use mathlib.Core.List.{List}
+use Prim.Native.Nat.{ℕ, _+_, _*_, _/_, _%_, _^_, _≤_, _<_}
 use native.Mathlib.Omega.{arith}
-use native.Mathlib.Nat.{zero-add, add-zero, le-refl, div-eq-of-lt}
+use native.Mathlib.Nat.{zero-add}
 use native.Mathlib.Decide.{ℕ-discrete}
 use borrow.Author.Tests.{lt-ltb, le-ltb, le-leb, eq-eqb, leb-true}
-use lib.Bits.{bitAnd, bitOr}
-use lib.Count.{ones}
-use lib.Dec.{T, ltb, leb, eqb, lt→ltb, ltb→lt, eqb→eq}
+use lib.Dec.{T, ltb, lt→ltb, ltb→lt}
 use lib.ListN.{length, getD, set, replicate, length-replicate, getD-replicate, length-set}
-use lib.Pow.{pow-pos}
 use lib.Seq.{ext-getD, getD-set-same, getD-set-other}
-use Rattle.base.specs.Checks.{must, mustBe, _then_, sideLimit}
-use Rattle.base.specs.Lists.{listFrom}
-use Rattle.base.specs.Sets.{anyBelow, everyBelow, countBelow, membersFrom, membersBelow}
+use Rattle.base.specs.Checks.{sideLimit}
+use Rattle.base.specs.Sets.{everyBelow}
 use Rattle.base.specs.declared.Checked.{Checked}
 use Rattle.base.proofs.Bools.{decide, and-l, and-r, or-l, or-r, or-e, T-true, T-false, T-of, lt-or-le}
 use Rattle.base.proofs.Checks.{pass, last-pass, length-pass, passed, length-passed, both-passed}
 use Rattle.base.proofs.Lists.{length-listFrom, getD-listFrom, listFrom-cong}
 use Rattle.base.proofs.Sets.{every-i, every-e}
-use Rattle.word.specs.Bits.{bitAt, setBits, wordFrom, wordOf}
-use Rattle.word.proofs.Bits.{zero-bit, bit-shr, one-shl, bit-test}
-use Rattle.word.proofs.Words.{word-lt, bit-word, word-of-bits, word-ext, word-none, bit-past}
+use Rattle.word.specs.Bits.{bitAt, wordOf}
+use Rattle.word.proofs.Words.{word-lt, bit-word, word-of-bits, word-ext, word-none}
 use Rattle.mask.specs.Mask.{inMask, wordsFor, maskWords, clean, shapeCheck, maskCheck, lengthCheck, IsMask}
 use Rattle.mask.specs.Answers.{pairCheck}
 

@@ -2,9 +2,9 @@
 -- order. Assumes nothing.
 use mathlib.Core.Path.{_≡_, refl, sym, ap, ap₂, _∙_, subst}
 use mathlib.Core.Logic.{_⊎_, inl, inr, _≢_}
-use mathlib.Core.Bool.{Bool, true, false, not, _&&_, _||_}
-use mathlib.Core.List.{List, [], _∷_, _++_, map}
-use Prim.Native.Nat.{ℕ, zero, suc, _+_, _-_, _*_, _/_, _%_, _^_, _≤_, _<_}
+use mathlib.Core.Bool.{Bool, true, false, _&&_}
+use mathlib.Core.List.{List, _++_, map}
+use Prim.Native.Nat.{ℕ, _+_, _-_, _*_, _^_, _≤_, _<_}
 use native.Mathlib.Omega.{arith}
 use native.Mathlib.Nat.{add-zero}
 use lib.Bits.{bitAnd}
@@ -15,12 +15,12 @@ use Rattle.base.specs.Sets.{anyBelow, countBelow, one-if, membersFrom, membersB
 use Rattle.base.proofs.Bools.{lt-or-le, not-T-of, T-true}
 use Rattle.base.proofs.Lists.{at-head}
 use Rattle.base.proofs.Sets.{None, any-i, any-none, sum-append, count-cong, count-past, members-append, members-past, members-shift, members-ext}
-use Rattle.word.specs.Bits.{bitAt, setBits, wordFrom, wordOf}
+use Rattle.word.specs.Bits.{bitAt, setBits, wordFrom}
 use Rattle.word.specs.Answers.{on}
 use Rattle.word.specs.declared.Operation.{Operation}
 use Rattle.word.proofs.Bits.{zero-bit, bit-and, ones-count, lowest, no-bits}
 use Rattle.word.proofs.Words.{some-bit, word-ext, on-words}
-use Rattle.mask.specs.Mask.{inMask, wordsFor, maskWords, IsMask}
+use Rattle.mask.specs.Mask.{inMask, IsMask}
 use Rattle.mask.specs.Answers.{combined}
 use Rattle.mask.proofs.Masks.{in-word, word-at, is-length, is-word, is-below}
 

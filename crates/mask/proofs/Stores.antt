@@ -1,25 +1,25 @@
 -- What one read or store at a word of a mask is, as a set. Assumes nothing.
-use mathlib.Core.Path.{_≡_, refl, sym, ap, ap₂, _∙_, subst}
+use mathlib.Core.Path.{_≡_, refl, sym, ap, ap₂, _∙_}
 use mathlib.Core.Logic.{_⊎_, inl, inr, _≢_}
 use mathlib.Core.Bool.{Bool, true, false, not, cond, _&&_, _||_}
-use mathlib.Core.List.{List, [], _∷_, _++_}
+use mathlib.Core.List.{List}
 use Prim.Native.Nat.{ℕ, _+_, _-_, _*_, _/_, _%_, _^_, _≤_, _<_}
 use native.Mathlib.Omega.{arith}
 use native.Mathlib.Numerals.{add-one}
-use borrow.Author.Tests.{eq-eqb, ne-eqb, lt-ltb, le-ltb}
+use borrow.Author.Tests.{eq-eqb, ne-eqb, lt-ltb}
 use lib.Bits.{bitAnd, bitOr}
-use lib.Dec.{T, ltb, eqb, eqb→eq}
+use lib.Dec.{ltb, eqb}
 use lib.ListN.{length, getD, set, take}
 use lib.Seq.{take-suc}
 use Rattle.base.specs.Lists.{isIn}
-use Rattle.base.proofs.Bools.{lt-or-le, eq-or-ne, or-false}
+use Rattle.base.proofs.Bools.{eq-or-ne, or-false}
 use Rattle.base.proofs.Lists.{in-snoc}
-use Rattle.word.specs.Bits.{bitAt, wordFrom, wordOf}
+use Rattle.word.specs.Bits.{bitAt, wordOf}
 use Rattle.word.proofs.Bits.{one-shl, bit-test}
 use Rattle.word.proofs.Words.{word-ext, word-of-bits, word-op, or-bitwise, and-bitwise, and-not-bitwise, word-one, word-below}
 use Rattle.mask.specs.Mask.{inMask, wordsFor, maskWords, IsMask}
 use Rattle.mask.specs.Answers.{withNode, withWord}
-use Rattle.mask.proofs.Masks.{within, past, mask-cong, mask-holds, is-length, is-word, mask-store}
+use Rattle.mask.proofs.Masks.{mask-cong, mask-holds, is-length, is-word, mask-store}
 
 -- reading a node
 pub bit-read : (words : List ℕ) (i : ℕ) → not (eqb (bitAnd (getD words (i / 64) 0) ((1 * 2 ^ (i % 64)) % 2 ^ 64)) 0) ≡ inMask words i

@@ -1,5 +1,5 @@
 -- What the mask's functions answer, and what they leave in the lists that they are lent, each as a set.
-use mathlib.Core.Bool.{Bool, true, false, not, cond, _&&_, _||_}
+use mathlib.Core.Bool.{Bool, false, not, cond, _&&_, _||_}
 use mathlib.Core.List.{List}
 use Prim.Native.Nat.{ℕ, _/_, _%_}
 use lib.Dec.{ltb, leb, eqb}

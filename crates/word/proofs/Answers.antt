@@ -1,5 +1,5 @@
 -- What the word's methods compute is what the definitions say, over plain numbers. Assumes nothing.
-use mathlib.Core.Bool.{Bool, true, false, not, _&&_}
+use mathlib.Core.Bool.{Bool, false, not, _&&_}
 use mathlib.Core.List.{List, [], _∷_}
 use mathlib.Core.Path.{_≡_, refl, sym, ap, _∙_}
 use Prim.Native.Nat.{ℕ, zero, suc, _+_, _-_, _*_, _%_, _^_, _≤_, _<_}
@@ -15,10 +15,9 @@ use lib.Pow.{pow-pos}
 use lib.Seq.{drop-cons}
 use mir.Syntax.{w64}
 use mir.Val.{Fits}
-use Rattle.base.specs.Checks.{plain, must, after}
-use Rattle.base.specs.Sets.{countBelow, membersFrom}
+use Rattle.base.specs.Checks.{plain, must}
+use Rattle.base.specs.Sets.{countBelow}
 use Rattle.base.specs.declared.Refusal.{Refusal}
-use Rattle.base.specs.declared.Checked.{Checked}
 use Rattle.base.proofs.Checks.{last-pass, last-stop, on-accepted, on-refused}
 use Rattle.base.proofs.Sets.{count-members}
 use Rattle.word.specs.Bits.{bitAt, setBits, wordFrom}

@@ -1,15 +1,15 @@
 -- Laws of a word's bits: the language's own operations, bit by bit, over plain numbers in the shape that a goal has. Assumes nothing.
-use mathlib.Core.Bool.{Bool, true, false, not, _&&_, _||_}
-use mathlib.Core.List.{List, [], _∷_, _++_, map}
+use mathlib.Core.Bool.{Bool, false, not, _&&_, _||_}
+use mathlib.Core.List.{List, [], _∷_, map}
 use mathlib.Core.Path.{_≡_, refl, sym, ap, ap₂, subst, _∙_}
-use Prim.Native.Nat.{ℕ, zero, suc, _+_, _-_, _*_, _/_, _%_, _^_, _≤_, _<_, min, max}
+use Prim.Native.Nat.{ℕ, zero, suc, _+_, _-_, _*_, _/_, _%_, _^_, _<_, min, max}
 use native.Mathlib.Nat.{div-one, mod-lt, zero-lt-suc, lt-of-le-of-lt, pow-suc, mod-eq-of-lt, one-mul, zero-mul, div-eq-of-lt, mul-div-cancel, mul-mod-left}
 use native.Mathlib.Numerals.{add-one, one-add}
 use native.Mathlib.Nat.{zero-add}
 use native.Mathlib.Omega.{arith}
-use borrow.Author.Tests.{ne-eqb, eq-eqb}
+use borrow.Author.Tests.{ne-eqb}
 use lib.Arith.{lt-one, digits-mod}
-use lib.Bits.{bitAnd, bitOr, and-step, or-step, and-self, and-mask, and-le-l, and-le-r, and-shr, or-shr, and-high}
+use lib.Bits.{bitAnd, bitOr, and-step, or-step, and-self, and-mask, and-le-r, and-shr, or-shr, and-high}
 use lib.Count.{ones, onesIn, ones-step, trailingZeros}
 use lib.Dec.{eqb, eqb·suc-suc, eqb·zero-suc, eqb·suc-zero}
 use lib.ListN.{length, length-map}

@@ -2,7 +2,7 @@
 use mathlib.Core.Path.{_≡_, refl, sym, ap, ap₂, _∙_, subst}
 use mathlib.Core.Logic.{_⊎_, inl, inr, _≢_}
 use mathlib.Core.Bool.{Bool, true, false, not, _&&_, _||_}
-use mathlib.Core.List.{List, map}
+use mathlib.Core.List.{map}
 use Prim.Native.Nat.{ℕ, zero, suc, _+_, _-_, _*_, _/_, _%_, _^_, _≤_, _<_}
 use native.Mathlib.Omega.{arith}
 use native.Mathlib.Nat.{not-suc-le-zero, lt-of-le-of-lt, lt-of-lt-of-le, div-eq-of-lt, add-zero, zero-add}
@@ -10,13 +10,12 @@ use borrow.Author.Tests.{eq-eqb, ne-eqb, lt-ltb, le-ltb}
 use lib.Bits.{bitAnd, bitOr, and-le-l, or-lt}
 use lib.Count.{ones}
 use lib.Dec.{T, eqb, ltb, eqb→eq}
-use lib.ListN.{length}
 use lib.Pow.{pow-mono, pow-lt, pow-pos}
 use Rattle.base.specs.Sets.{one-if, anyBelow, countBelow, membersFrom}
 use Rattle.base.proofs.Bools.{bool-ext, decide, T-false, not-T-of, lt-or-le}
 use Rattle.base.proofs.Sets.{any-i, any-e, any-none, members-shift, members-ext, count-cong}
 use Rattle.word.specs.Bits.{bitAt, setBits, wordFrom, wordOf}
-use Rattle.word.proofs.Bits.{bit-zero, bit-suc, bit-or, bit-and, bit-not, bit-pow, zero-bit, bit-shr, ones-count}
+use Rattle.word.proofs.Bits.{bit-zero, bit-suc, bit-or, bit-and, bit-not, bit-pow, zero-bit, ones-count}
 
 -- ---- a word and its bits
 

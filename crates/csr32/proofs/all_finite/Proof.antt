@@ -1,19 +1,14 @@
-use mathlib.Core.Path.{_≡_, refl, sym, _∙_, ap}
-use Prim.Native.Nat.{ℕ, _+_, _-_, _≤_, _<_}
-use native.Mathlib.Omega.{arith}
-use lib.ListN.{length, getD, drop}
+use mathlib.Core.Path.{_≡_, sym, _∙_}
+use Prim.Native.Nat.{_-_, _≤_}
+use lib.ListN.{length, drop}
 use lib.Ieee.{nan}
-use lib.Dec.{leb, ltb}
 use borrow.Author.Needs.{needs}
-use borrow.Author.Tests.{not-true, not-false, lt-ltb, le-ltb, le-leb, lt-leb}
+use borrow.Author.Tests.{not-true, not-false}
 use Rattle.base.specs.Lists.{every}
 use Rattle.csr32.specs.Matrix.{finite}
 use Rattle.base.proofs.Lists.{every-step, every-stop, every-end}
 use Rattle.csr32.proofs.all_finite.Statement.{statement}
 use Rattle.csr32.proofs.all_finite.Tie as tie
-use Rattle.csr32.proofs.all_finite.Reads as reads
-use Rattle.csr32.proofs.all_finite.Lts as lts
-use Rattle.csr32.proofs.is_finite.Reads as is-finite-reads
 
 abbrev Inv-loop : tie.InvT-loop
 Inv-loop s i₀ i = (i ≤ length s) × (every finite s ≡ every finite (drop i s))

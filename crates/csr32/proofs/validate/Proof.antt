@@ -1,20 +1,8 @@
-use mathlib.Core.Path.{_≡_, refl, sym, _∙_, ap}
-use Prim.Native.Nat.{ℕ, _+_, _-_, _≤_, _<_}
-use native.Mathlib.Omega.{arith}
-use lib.ListN.{length, getD, drop}
 use borrow.Author.Needs.{needs}
-use borrow.Author.Tests.{not-true, not-false, lt-ltb, le-ltb, le-leb, lt-leb, eq-eqb, ne-eqb}
 use Rattle.csr32.specs.Matrix.{matrixCheck}
 use Rattle.base.proofs.Checks.{checks, pass}
 use Rattle.csr32.proofs.validate.Statement.{statement}
 use Rattle.csr32.proofs.validate.Tie as tie
-use Rattle.csr32.proofs.validate.Reads as reads
-use Rattle.csr32.proofs.validate.Lts as lts
-use Rattle.base.proofs.scan.all_below.Reads as all-below-reads
-use Rattle.csr32.proofs.all_finite.Reads as all-finite-reads
-use Rattle.base.proofs.scan.never_falls.Reads as never-falls-reads
-use Rattle.base.proofs.refused.Reads as refused-reads
-use Rattle.base.proofs.wide.Reads as wide-reads
 
 refused-requires : tie.Need-refused-requires
 refused-requires c κs = search needs

@@ -1,13 +1,9 @@
 -- `hybit_matrix::flat_checked` meets its contract.  Assumes nothing.
-use mathlib.Core.Path.{_≡_, sym, ap, _∙_}
+use mathlib.Core.Path.{sym, ap, _∙_}
 use Rattle.hybit_matrix.specs.Flat.{flatChecked}
 use borrow.Author.Needs.{needs}
 use Rattle.hybit_matrix.proofs.flat_checked.Statement.{statement}
 use Rattle.hybit_matrix.proofs.flat_checked.Tie as tie
-use Rattle.hybit_matrix.proofs.flat_checked.Reads as reads
-use Rattle.hybit_matrix.proofs.flat_checked.Lts as lts
-use Rattle.hybit_matrix.proofs.answered_with.Reads as answered-with-reads
-use Rattle.hybit_matrix.proofs.refused_with.Reads as refused-with-reads
 
 enum-told : tie.Need-enum-told
 enum-told c = search needs

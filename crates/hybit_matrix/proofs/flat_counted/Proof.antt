@@ -1,13 +1,9 @@
 -- `hybit_matrix::flat_counted` meets its contract.  Assumes nothing.
-use mathlib.Core.Path.{_≡_, sym, ap, _∙_}
+use mathlib.Core.Path.{sym, ap, _∙_}
 use Rattle.hybit_matrix.specs.Flat.{flatCounted}
 use borrow.Author.Needs.{needs}
 use Rattle.hybit_matrix.proofs.flat_counted.Statement.{statement}
 use Rattle.hybit_matrix.proofs.flat_counted.Tie as tie
-use Rattle.hybit_matrix.proofs.flat_counted.Reads as reads
-use Rattle.hybit_matrix.proofs.flat_counted.Lts as lts
-use Rattle.hybit_matrix.proofs.answered_with.Reads as answered-with-reads
-use Rattle.hybit_matrix.proofs.refused_with.Reads as refused-with-reads
 
 enum-known-c : tie.Need-enum-known-c
 enum-known-c c = search needs

@@ -1,13 +1,9 @@
 -- `hybit_matrix::flat_ranked` meets its contract.  Assumes nothing.
-use mathlib.Core.Path.{_≡_, sym, ap, _∙_}
+use mathlib.Core.Path.{sym, ap, _∙_}
 use Rattle.hybit_matrix.specs.Flat.{flatRanked}
 use borrow.Author.Needs.{needs}
 use Rattle.hybit_matrix.proofs.flat_ranked.Statement.{statement}
 use Rattle.hybit_matrix.proofs.flat_ranked.Tie as tie
-use Rattle.hybit_matrix.proofs.flat_ranked.Reads as reads
-use Rattle.hybit_matrix.proofs.flat_ranked.Lts as lts
-use Rattle.hybit_matrix.proofs.answered_with.Reads as answered-with-reads
-use Rattle.hybit_matrix.proofs.refused_with.Reads as refused-with-reads
 
 enum-known-k : tie.Need-enum-known-k
 enum-known-k c = search needs

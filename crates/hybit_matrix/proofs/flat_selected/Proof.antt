@@ -1,12 +1,9 @@
 -- `hybit_matrix::flat_selected` meets its contract.  Assumes nothing.
-use mathlib.Core.Path.{_≡_, sym, ap, _∙_}
+use mathlib.Core.Path.{sym, ap, _∙_}
 use Rattle.hybit_matrix.specs.Flat.{flatSelected}
 use borrow.Author.Needs.{needs}
 use Rattle.hybit_matrix.proofs.flat_selected.Statement.{statement}
 use Rattle.hybit_matrix.proofs.flat_selected.Tie as tie
-use Rattle.hybit_matrix.proofs.flat_selected.Reads as reads
-use Rattle.hybit_matrix.proofs.flat_selected.Lts as lts
-use Rattle.hybit_matrix.proofs.answered_with.Reads as answered-with-reads
 
 enum-known-s : tie.Need-enum-known-s
 enum-known-s c = search needs

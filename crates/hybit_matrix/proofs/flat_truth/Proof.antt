@@ -1,15 +1,11 @@
 -- `hybit_matrix::flat_truth` meets its contract.  Assumes nothing.
-use mathlib.Core.Path.{_≡_, sym, ap, _∙_}
+use mathlib.Core.Path.{sym, ap, _∙_}
 use Rattle.hybit_matrix.specs.Flat.{flatTruth}
 use mathlib.Core.Bool.{Bool}
 use Rattle.mask.specs.declared.Truth.{Truth}
 use borrow.Author.Needs.{needs}
 use Rattle.hybit_matrix.proofs.flat_truth.Statement.{statement}
 use Rattle.hybit_matrix.proofs.flat_truth.Tie as tie
-use Rattle.hybit_matrix.proofs.flat_truth.Reads as reads
-use Rattle.hybit_matrix.proofs.flat_truth.Lts as lts
-use Rattle.hybit_matrix.proofs.answered_with.Reads as answered-with-reads
-use Rattle.hybit_matrix.proofs.refused_with.Reads as refused-with-reads
 
 enum-known-t : tie.Need-enum-known-t
 enum-known-t c = search needs

@@ -1,13 +1,9 @@
 -- `hybit_matrix::hybit_csr32_validate` meets its contract.  Assumes nothing.
-use mathlib.Core.Path.{_≡_, sym, ap, _∙_}
+use mathlib.Core.Path.{ap, _∙_}
 use Rattle.hybit_matrix.specs.Flat.{flatChecked}
 use borrow.Author.Needs.{needs}
 use Rattle.hybit_matrix.proofs.hybit_csr32_validate.Statement.{statement}
 use Rattle.hybit_matrix.proofs.hybit_csr32_validate.Tie as tie
-use Rattle.hybit_matrix.proofs.hybit_csr32_validate.Reads as reads
-use Rattle.hybit_matrix.proofs.hybit_csr32_validate.Lts as lts
-use Rattle.csr32.proofs.validate.Reads as validate-reads
-use Rattle.hybit_matrix.proofs.flat_checked.Reads as flat-checked-reads
 
 validate-requires : tie.Need-validate-requires
 validate-requires c κs = search needs

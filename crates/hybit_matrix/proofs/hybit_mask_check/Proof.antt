@@ -1,13 +1,9 @@
 -- `hybit_matrix::hybit_mask_check` meets its contract.  Assumes nothing.
-use mathlib.Core.Path.{_≡_, sym, ap, _∙_}
+use mathlib.Core.Path.{ap, _∙_}
 use Rattle.hybit_matrix.specs.Flat.{flatChecked}
 use borrow.Author.Needs.{needs}
 use Rattle.hybit_matrix.proofs.hybit_mask_check.Statement.{statement}
 use Rattle.hybit_matrix.proofs.hybit_mask_check.Tie as tie
-use Rattle.hybit_matrix.proofs.hybit_mask_check.Reads as reads
-use Rattle.hybit_matrix.proofs.hybit_mask_check.Lts as lts
-use Rattle.hybit_matrix.proofs.flat_checked.Reads as flat-checked-reads
-use Rattle.mask.proofs.check.Reads as check-reads
 
 check-requires : tie.Need-check-requires
 check-requires c κs = search needs

@@ -1,13 +1,9 @@
 -- `hybit_matrix::hybit_mask_contains` meets its contract.  Assumes nothing.
-use mathlib.Core.Path.{_≡_, sym, ap, _∙_}
+use mathlib.Core.Path.{ap, _∙_}
 use Rattle.hybit_matrix.specs.Flat.{flatTruth}
 use borrow.Author.Needs.{needs}
 use Rattle.hybit_matrix.proofs.hybit_mask_contains.Statement.{statement}
 use Rattle.hybit_matrix.proofs.hybit_mask_contains.Tie as tie
-use Rattle.hybit_matrix.proofs.hybit_mask_contains.Reads as reads
-use Rattle.hybit_matrix.proofs.hybit_mask_contains.Lts as lts
-use Rattle.hybit_matrix.proofs.flat_truth.Reads as flat-truth-reads
-use Rattle.mask.proofs.contains.Reads as contains-reads
 
 contains-requires : tie.Need-contains-requires
 contains-requires c κs = search needs

@@ -1,13 +1,9 @@
 -- `hybit_matrix::hybit_mask_count_ones` meets its contract.  Assumes nothing.
-use mathlib.Core.Path.{_≡_, sym, ap, _∙_}
+use mathlib.Core.Path.{ap, _∙_}
 use Rattle.hybit_matrix.specs.Flat.{flatCounted}
 use borrow.Author.Needs.{needs}
 use Rattle.hybit_matrix.proofs.hybit_mask_count_ones.Statement.{statement}
 use Rattle.hybit_matrix.proofs.hybit_mask_count_ones.Tie as tie
-use Rattle.hybit_matrix.proofs.hybit_mask_count_ones.Reads as reads
-use Rattle.hybit_matrix.proofs.hybit_mask_count_ones.Lts as lts
-use Rattle.hybit_matrix.proofs.flat_counted.Reads as flat-counted-reads
-use Rattle.mask.proofs.count_ones.Reads as count-ones-reads
 
 count-ones-requires : tie.Need-count-ones-requires
 count-ones-requires c κs = search needs

@@ -1,13 +1,9 @@
 -- `hybit_matrix::hybit_mask_from_indices` meets its contract.  Assumes nothing.
-use mathlib.Core.Path.{_≡_, sym, ap, _∙_}
+use mathlib.Core.Path.{ap, _∙_}
 use Rattle.hybit_matrix.specs.Flat.{flatChecked}
 use borrow.Author.Needs.{needs}
 use Rattle.hybit_matrix.proofs.hybit_mask_from_indices.Statement.{statement}
 use Rattle.hybit_matrix.proofs.hybit_mask_from_indices.Tie as tie
-use Rattle.hybit_matrix.proofs.hybit_mask_from_indices.Reads as reads
-use Rattle.hybit_matrix.proofs.hybit_mask_from_indices.Lts as lts
-use Rattle.hybit_matrix.proofs.flat_checked.Reads as flat-checked-reads
-use Rattle.mask.proofs.from_indices.Reads as from-indices-reads
 
 from-indices-requires : tie.Need-from-indices-requires
 from-indices-requires c κs = search needs

@@ -1,13 +1,9 @@
 -- `hybit_matrix::hybit_mask_indices` meets its contract.  Assumes nothing.
-use mathlib.Core.Path.{_≡_, sym, ap, _∙_}
+use mathlib.Core.Path.{ap, _∙_}
 use Rattle.hybit_matrix.specs.Flat.{flatCounted}
 use borrow.Author.Needs.{needs}
 use Rattle.hybit_matrix.proofs.hybit_mask_indices.Statement.{statement}
 use Rattle.hybit_matrix.proofs.hybit_mask_indices.Tie as tie
-use Rattle.hybit_matrix.proofs.hybit_mask_indices.Reads as reads
-use Rattle.hybit_matrix.proofs.hybit_mask_indices.Lts as lts
-use Rattle.hybit_matrix.proofs.flat_counted.Reads as flat-counted-reads
-use Rattle.mask.proofs.indices.Reads as indices-reads
 
 indices-requires : tie.Need-indices-requires
 indices-requires c κs = search needs

@@ -1,13 +1,9 @@
 -- `hybit_matrix::hybit_mask_intersect_assign` meets its contract.  Assumes nothing.
-use mathlib.Core.Path.{_≡_, sym, ap, _∙_}
+use mathlib.Core.Path.{ap, _∙_}
 use Rattle.hybit_matrix.specs.Flat.{flatChecked}
 use borrow.Author.Needs.{needs}
 use Rattle.hybit_matrix.proofs.hybit_mask_intersect_assign.Statement.{statement}
 use Rattle.hybit_matrix.proofs.hybit_mask_intersect_assign.Tie as tie
-use Rattle.hybit_matrix.proofs.hybit_mask_intersect_assign.Reads as reads
-use Rattle.hybit_matrix.proofs.hybit_mask_intersect_assign.Lts as lts
-use Rattle.hybit_matrix.proofs.flat_checked.Reads as flat-checked-reads
-use Rattle.mask.proofs.intersect_assign.Reads as intersect-assign-reads
 
 intersect-assign-requires : tie.Need-intersect-assign-requires
 intersect-assign-requires c κs = search needs

@@ -1,13 +1,9 @@
 -- `hybit_matrix::hybit_mask_intersects` meets its contract.  Assumes nothing.
-use mathlib.Core.Path.{_≡_, sym, ap, _∙_}
+use mathlib.Core.Path.{ap, _∙_}
 use Rattle.hybit_matrix.specs.Flat.{flatTruth}
 use borrow.Author.Needs.{needs}
 use Rattle.hybit_matrix.proofs.hybit_mask_intersects.Statement.{statement}
 use Rattle.hybit_matrix.proofs.hybit_mask_intersects.Tie as tie
-use Rattle.hybit_matrix.proofs.hybit_mask_intersects.Reads as reads
-use Rattle.hybit_matrix.proofs.hybit_mask_intersects.Lts as lts
-use Rattle.hybit_matrix.proofs.flat_truth.Reads as flat-truth-reads
-use Rattle.mask.proofs.intersects.Reads as intersects-reads
 
 intersects-requires : tie.Need-intersects-requires
 intersects-requires c κs = search needs

@@ -1,13 +1,9 @@
 -- `hybit_matrix::hybit_mask_is_empty` meets its contract.  Assumes nothing.
-use mathlib.Core.Path.{_≡_, sym, ap, _∙_}
+use mathlib.Core.Path.{ap, _∙_}
 use Rattle.hybit_matrix.specs.Flat.{flatTruth}
 use borrow.Author.Needs.{needs}
 use Rattle.hybit_matrix.proofs.hybit_mask_is_empty.Statement.{statement}
 use Rattle.hybit_matrix.proofs.hybit_mask_is_empty.Tie as tie
-use Rattle.hybit_matrix.proofs.hybit_mask_is_empty.Reads as reads
-use Rattle.hybit_matrix.proofs.hybit_mask_is_empty.Lts as lts
-use Rattle.hybit_matrix.proofs.flat_truth.Reads as flat-truth-reads
-use Rattle.mask.proofs.is_empty.Reads as is-empty-reads
 
 is-empty-requires : tie.Need-is-empty-requires
 is-empty-requires c κs = search needs

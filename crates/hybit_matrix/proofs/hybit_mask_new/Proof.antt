@@ -1,13 +1,9 @@
 -- `hybit_matrix::hybit_mask_new` meets its contract.  Assumes nothing.
-use mathlib.Core.Path.{_≡_, sym, ap, _∙_}
+use mathlib.Core.Path.{ap, _∙_}
 use Rattle.hybit_matrix.specs.Flat.{flatChecked}
 use borrow.Author.Needs.{needs}
 use Rattle.hybit_matrix.proofs.hybit_mask_new.Statement.{statement}
 use Rattle.hybit_matrix.proofs.hybit_mask_new.Tie as tie
-use Rattle.hybit_matrix.proofs.hybit_mask_new.Reads as reads
-use Rattle.hybit_matrix.proofs.hybit_mask_new.Lts as lts
-use Rattle.hybit_matrix.proofs.flat_checked.Reads as flat-checked-reads
-use Rattle.mask.proofs.new.Reads as new-reads
 
 new-requires : tie.Need-new-requires
 new-requires c κs = search needs

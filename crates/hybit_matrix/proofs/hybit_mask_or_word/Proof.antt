@@ -1,13 +1,9 @@
 -- `hybit_matrix::hybit_mask_or_word` meets its contract.  Assumes nothing.
-use mathlib.Core.Path.{_≡_, sym, ap, _∙_}
+use mathlib.Core.Path.{ap, _∙_}
 use Rattle.hybit_matrix.specs.Flat.{flatChecked}
 use borrow.Author.Needs.{needs}
 use Rattle.hybit_matrix.proofs.hybit_mask_or_word.Statement.{statement}
 use Rattle.hybit_matrix.proofs.hybit_mask_or_word.Tie as tie
-use Rattle.hybit_matrix.proofs.hybit_mask_or_word.Reads as reads
-use Rattle.hybit_matrix.proofs.hybit_mask_or_word.Lts as lts
-use Rattle.hybit_matrix.proofs.flat_checked.Reads as flat-checked-reads
-use Rattle.mask.proofs.or_word.Reads as or-word-reads
 
 or-word-requires : tie.Need-or-word-requires
 or-word-requires c κs = search needs

@@ -1,13 +1,9 @@
 -- `hybit_matrix::hybit_mask_set` meets its contract.  Assumes nothing.
-use mathlib.Core.Path.{_≡_, sym, ap, _∙_}
+use mathlib.Core.Path.{ap, _∙_}
 use Rattle.hybit_matrix.specs.Flat.{flatChecked}
 use borrow.Author.Needs.{needs}
 use Rattle.hybit_matrix.proofs.hybit_mask_set.Statement.{statement}
 use Rattle.hybit_matrix.proofs.hybit_mask_set.Tie as tie
-use Rattle.hybit_matrix.proofs.hybit_mask_set.Reads as reads
-use Rattle.hybit_matrix.proofs.hybit_mask_set.Lts as lts
-use Rattle.hybit_matrix.proofs.flat_checked.Reads as flat-checked-reads
-use Rattle.mask.proofs.set.Reads as set-reads
 
 set-requires : tie.Need-set-requires
 set-requires c κs = search needs

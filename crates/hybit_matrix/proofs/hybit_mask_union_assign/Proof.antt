@@ -1,13 +1,9 @@
 -- `hybit_matrix::hybit_mask_union_assign` meets its contract.  Assumes nothing.
-use mathlib.Core.Path.{_≡_, sym, ap, _∙_}
+use mathlib.Core.Path.{ap, _∙_}
 use Rattle.hybit_matrix.specs.Flat.{flatChecked}
 use borrow.Author.Needs.{needs}
 use Rattle.hybit_matrix.proofs.hybit_mask_union_assign.Statement.{statement}
 use Rattle.hybit_matrix.proofs.hybit_mask_union_assign.Tie as tie
-use Rattle.hybit_matrix.proofs.hybit_mask_union_assign.Reads as reads
-use Rattle.hybit_matrix.proofs.hybit_mask_union_assign.Lts as lts
-use Rattle.hybit_matrix.proofs.flat_checked.Reads as flat-checked-reads
-use Rattle.mask.proofs.union_assign.Reads as union-assign-reads
 
 union-assign-requires : tie.Need-union-assign-requires
 union-assign-requires c κs = search needs

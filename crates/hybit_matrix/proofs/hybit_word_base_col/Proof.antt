@@ -1,14 +1,10 @@
 -- `hybit_matrix::hybit_word_base_col` meets its contract.  Assumes nothing.
-use mathlib.Core.Path.{_≡_, sym, ap, _∙_}
+use mathlib.Core.Path.{ap, _∙_}
 use Rattle.word.specs.declared.AbtmTopologyWord.{AbtmTopologyWord}
 use Prim.Native.Nat.{_*_}
 use borrow.Author.Needs.{needs}
 use Rattle.hybit_matrix.proofs.hybit_word_base_col.Statement.{statement}
 use Rattle.hybit_matrix.proofs.hybit_word_base_col.Tie as tie
-use Rattle.hybit_matrix.proofs.hybit_word_base_col.Reads as reads
-use Rattle.hybit_matrix.proofs.hybit_word_base_col.Lts as lts
-use Rattle.word.proofs.AbtmTopologyWord.base_col.Reads as base-col-reads
-use Rattle.word.proofs.AbtmTopologyWord.new.Reads as new-reads
 
 new-requires : tie.Need-new-requires
 new-requires c κs = search needs

@@ -1,14 +1,10 @@
 -- `hybit_matrix::hybit_word_contains_offset` meets its contract.  Assumes nothing.
-use mathlib.Core.Path.{_≡_, sym, ap, _∙_}
+use mathlib.Core.Path.{ap, _∙_}
 use Rattle.word.specs.declared.AbtmTopologyWord.{AbtmTopologyWord}
 use Rattle.word.specs.Answers.{containsAnswer}
 use borrow.Author.Needs.{needs}
 use Rattle.hybit_matrix.proofs.hybit_word_contains_offset.Statement.{statement}
 use Rattle.hybit_matrix.proofs.hybit_word_contains_offset.Tie as tie
-use Rattle.hybit_matrix.proofs.hybit_word_contains_offset.Reads as reads
-use Rattle.hybit_matrix.proofs.hybit_word_contains_offset.Lts as lts
-use Rattle.word.proofs.AbtmTopologyWord.contains_offset.Reads as contains-offset-reads
-use Rattle.word.proofs.AbtmTopologyWord.new.Reads as new-reads
 
 new-requires : tie.Need-new-requires
 new-requires c κs = search needs

@@ -1,15 +1,11 @@
 -- `hybit_matrix::hybit_word_popcount` meets its contract.  Assumes nothing.
-use mathlib.Core.Path.{_≡_, sym, ap, _∙_}
+use mathlib.Core.Path.{ap, _∙_}
 use Rattle.word.specs.declared.AbtmTopologyWord.{AbtmTopologyWord}
 use Rattle.base.specs.Sets.{countBelow}
 use Rattle.word.specs.Bits.{bitAt}
 use borrow.Author.Needs.{needs}
 use Rattle.hybit_matrix.proofs.hybit_word_popcount.Statement.{statement}
 use Rattle.hybit_matrix.proofs.hybit_word_popcount.Tie as tie
-use Rattle.hybit_matrix.proofs.hybit_word_popcount.Reads as reads
-use Rattle.hybit_matrix.proofs.hybit_word_popcount.Lts as lts
-use Rattle.word.proofs.AbtmTopologyWord.new.Reads as new-reads
-use Rattle.word.proofs.AbtmTopologyWord.popcount.Reads as popcount-reads
 
 new-requires : tie.Need-new-requires
 new-requires c κs = search needs

@@ -1,16 +1,11 @@
 -- `hybit_matrix::hybit_word_rank` meets its contract.  Assumes nothing.
-use mathlib.Core.Path.{_≡_, sym, ap, _∙_}
+use mathlib.Core.Path.{ap, _∙_}
 use Rattle.word.specs.declared.AbtmTopologyWord.{AbtmTopologyWord}
 use Rattle.hybit_matrix.specs.Flat.{flatRanked}
 use Rattle.word.specs.Answers.{rankAnswer}
 use borrow.Author.Needs.{needs}
 use Rattle.hybit_matrix.proofs.hybit_word_rank.Statement.{statement}
 use Rattle.hybit_matrix.proofs.hybit_word_rank.Tie as tie
-use Rattle.hybit_matrix.proofs.hybit_word_rank.Reads as reads
-use Rattle.hybit_matrix.proofs.hybit_word_rank.Lts as lts
-use Rattle.hybit_matrix.proofs.flat_ranked.Reads as flat-ranked-reads
-use Rattle.word.proofs.AbtmTopologyWord.new.Reads as new-reads
-use Rattle.word.proofs.AbtmTopologyWord.rank.Reads as rank-reads
 
 new-requires : tie.Need-new-requires
 new-requires c κs = search needs

@@ -1,16 +1,11 @@
 -- `hybit_matrix::hybit_word_select` meets its contract.  Assumes nothing.
-use mathlib.Core.Path.{_≡_, sym, ap, _∙_}
+use mathlib.Core.Path.{ap, _∙_}
 use Rattle.word.specs.declared.AbtmTopologyWord.{AbtmTopologyWord}
 use Rattle.hybit_matrix.specs.Flat.{flatSelected}
 use Rattle.word.specs.Answers.{selectAnswer}
 use borrow.Author.Needs.{needs}
 use Rattle.hybit_matrix.proofs.hybit_word_select.Statement.{statement}
 use Rattle.hybit_matrix.proofs.hybit_word_select.Tie as tie
-use Rattle.hybit_matrix.proofs.hybit_word_select.Reads as reads
-use Rattle.hybit_matrix.proofs.hybit_word_select.Lts as lts
-use Rattle.hybit_matrix.proofs.flat_selected.Reads as flat-selected-reads
-use Rattle.word.proofs.AbtmTopologyWord.new.Reads as new-reads
-use Rattle.word.proofs.AbtmTopologyWord.select.Reads as select-reads
 
 new-requires : tie.Need-new-requires
 new-requires c κs = search needs

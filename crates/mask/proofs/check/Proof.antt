@@ -1,15 +1,10 @@
 -- `mask::check` meets its contract.  Assumes nothing.
-use mathlib.Core.Path.{_≡_, refl, sym, ap, _∙_}
-use borrow.Author.Tests.{lt-ltb, le-ltb, le-leb, lt-leb}
+use borrow.Author.Tests.{le-leb, lt-leb}
 use Rattle.base.proofs.Checks.{pass, stop}
 use Rattle.mask.specs.Mask.{maskCheck}
 use borrow.Author.Needs.{needs}
 use Rattle.mask.proofs.check.Statement.{statement}
 use Rattle.mask.proofs.check.Tie as tie
-use Rattle.mask.proofs.check.Reads as reads
-use Rattle.mask.proofs.check.Lts as lts
-use Rattle.base.proofs.refused.Reads as refused-reads
-use Rattle.mask.proofs.inner.check_shape.Reads as check-shape-reads
 
 refused-requires : tie.Need-refused-requires
 refused-requires c κs = search needs

@@ -1,21 +1,14 @@
 -- `mask::check_pair` meets its contract.  Assumes nothing.
-use mathlib.Core.Path.{_≡_, refl, sym, ap, _∙_}
-use Prim.Native.Nat.{ℕ, _+_, _-_, _*_, _/_, _%_, _^_, _≤_, _<_}
+use mathlib.Core.Path.{_≡_, sym, _∙_}
 use native.Mathlib.Omega.{arith}
-use borrow.Author.Tests.{lt-ltb, le-ltb, le-leb, lt-leb}
-use lib.ListN.{length, getD}
 use Rattle.base.specs.declared.Checked.{Checked}
 use Rattle.base.proofs.Checks.{group-pass, group-stop}
-use Rattle.mask.specs.Mask.{inMask, maskCheck, IsMask}
+use Rattle.mask.specs.Mask.{maskCheck, IsMask}
 use Rattle.mask.specs.Answers.{pairCheck}
 use Rattle.mask.proofs.Masks.{accepted-mask}
 use borrow.Author.Needs.{needs}
 use Rattle.mask.proofs.check_pair.Statement.{statement}
 use Rattle.mask.proofs.check_pair.Tie as tie
-use Rattle.mask.proofs.check_pair.Reads as reads
-use Rattle.mask.proofs.check_pair.Lts as lts
-use Rattle.mask.proofs.check.Reads as check-reads
-use Rattle.mask.proofs.inner.check_length.Reads as check-length-reads
 
 check-requires : tie.Need-check-requires
 check-requires c κs = search needs

@@ -1,21 +1,14 @@
 -- `mask::contains` meets its contract.  Assumes nothing.
-use mathlib.Core.Path.{_≡_, refl, sym, ap, _∙_}
-use Prim.Native.Nat.{ℕ, _+_, _-_, _*_, _/_, _%_, _^_, _≤_, _<_}
+use mathlib.Core.Path.{_≡_, sym, ap, _∙_}
 use native.Mathlib.Omega.{arith}
-use borrow.Author.Tests.{lt-ltb, le-ltb, le-leb, lt-leb}
-use lib.ListN.{length, getD}
 use Rattle.base.specs.declared.Checked.{Checked}
 use Rattle.base.proofs.Checks.{on-accepted, on-refused}
-use Rattle.mask.specs.Mask.{inMask, maskCheck, IsMask}
+use Rattle.mask.specs.Mask.{maskCheck, IsMask}
 use Rattle.mask.specs.declared.Truth.{Truth}
 use Rattle.mask.proofs.Masks.{accepted-mask, within, past}
 use borrow.Author.Needs.{needs}
 use Rattle.mask.proofs.contains.Statement.{statement}
 use Rattle.mask.proofs.contains.Tie as tie
-use Rattle.mask.proofs.contains.Reads as reads
-use Rattle.mask.proofs.contains.Lts as lts
-use Rattle.mask.proofs.check.Reads as check-reads
-use Rattle.mask.proofs.inner.holds.Reads as holds-reads
 
 check-requires : tie.Need-check-requires
 check-requires c κs = search needs

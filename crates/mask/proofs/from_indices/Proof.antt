@@ -1,12 +1,11 @@
 -- `mask::from_indices` meets its contract.  Assumes nothing.
 use mathlib.Core.Path.{_≡_, refl, sym, ap, _∙_}
-use Prim.Native.Nat.{ℕ, _+_, _-_, _*_, _/_, _%_, _^_, _≤_, _<_}
+use Prim.Native.Nat.{ℕ, _≤_, _<_}
 use native.Mathlib.Omega.{arith}
-use borrow.Author.Tests.{lt-ltb, le-ltb, le-leb, lt-leb}
-use lib.ListN.{length, getD}
-use Rattle.base.specs.declared.Checked.{Checked}
+use borrow.Author.Tests.{le-leb, lt-leb}
+use lib.ListN.{length}
 use mathlib.Core.List.{List, _++_}
-use lib.ListN.{take, drop}
+use lib.ListN.{drop}
 use lib.Seq.{length-take-le}
 use Rattle.base.specs.Lists.{isIn}
 use Rattle.base.proofs.Checks.{on-accepted, kept, pass, stop, last-pass, last-stop, call-no, call-yes}
@@ -16,12 +15,6 @@ use Rattle.mask.proofs.Masks.{mask-length}
 use borrow.Author.Needs.{needs}
 use Rattle.mask.proofs.from_indices.Statement.{statement}
 use Rattle.mask.proofs.from_indices.Tie as tie
-use Rattle.mask.proofs.from_indices.Reads as reads
-use Rattle.mask.proofs.from_indices.Lts as lts
-use Rattle.base.proofs.refused.Reads as refused-reads
-use Rattle.base.proofs.scan.all_below_wide.Reads as all-below-wide-reads
-use Rattle.mask.proofs.inner.fill.Reads as fill-reads
-use Rattle.mask.proofs.inner.words_for.Reads as words-for-reads
 
 refused-requires : tie.Need-refused-requires
 refused-requires c κs = search needs

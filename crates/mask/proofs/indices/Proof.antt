@@ -1,12 +1,12 @@
 -- `mask::indices` meets its contract.  Assumes nothing.
 use mathlib.Core.Path.{_≡_, refl, sym, ap, _∙_}
-use Prim.Native.Nat.{ℕ, _+_, _-_, _*_, _/_, _%_, _^_, _≤_, _<_}
+use Prim.Native.Nat.{_≤_, _<_}
 use native.Mathlib.Omega.{arith}
-use borrow.Author.Tests.{lt-ltb, le-ltb, le-leb, lt-leb}
-use lib.ListN.{length, getD}
+use borrow.Author.Tests.{le-leb, lt-leb}
+use lib.ListN.{length}
 use Rattle.base.specs.declared.Checked.{Checked}
 use Rattle.base.specs.Sets.{countBelow}
-use Rattle.base.proofs.Checks.{on-accepted, on-refused, kept, group-pass, group-stop, pass, stop, last-pass, last-stop}
+use Rattle.base.proofs.Checks.{on-accepted, on-refused, kept, group-pass, group-stop, last-pass, last-stop}
 use Rattle.mask.specs.Mask.{inMask, maskCheck, IsMask}
 use Rattle.mask.specs.Answers.{indicesCheck}
 use Rattle.mask.specs.declared.Counted.{Counted}
@@ -14,12 +14,6 @@ use Rattle.mask.proofs.Masks.{accepted-mask}
 use borrow.Author.Needs.{needs}
 use Rattle.mask.proofs.indices.Statement.{statement}
 use Rattle.mask.proofs.indices.Tie as tie
-use Rattle.mask.proofs.indices.Reads as reads
-use Rattle.mask.proofs.indices.Lts as lts
-use Rattle.base.proofs.Refusal.plain.Reads as plain-reads
-use Rattle.mask.proofs.check.Reads as check-reads
-use Rattle.mask.proofs.inner.count.Reads as count-reads
-use Rattle.mask.proofs.inner.write_members.Reads as write-members-reads
 
 check-requires : tie.Need-check-requires
 check-requires c κs = search needs

@@ -1,9 +1,6 @@
 -- `mask::intersects` meets its contract.  Assumes nothing.
-use mathlib.Core.Path.{_≡_, refl, sym, ap, _∙_}
-use Prim.Native.Nat.{ℕ, _+_, _-_, _*_, _/_, _%_, _^_, _≤_, _<_}
+use mathlib.Core.Path.{_≡_, sym, ap, _∙_}
 use native.Mathlib.Omega.{arith}
-use borrow.Author.Tests.{lt-ltb, le-ltb, le-leb, lt-leb}
-use lib.ListN.{length, getD}
 use Rattle.base.specs.declared.Checked.{Checked}
 use Rattle.base.proofs.Checks.{on-accepted, on-refused}
 use Rattle.mask.specs.Mask.{IsMask}
@@ -13,10 +10,6 @@ use Rattle.mask.proofs.Masks.{accepted-pair}
 use borrow.Author.Needs.{needs}
 use Rattle.mask.proofs.intersects.Statement.{statement}
 use Rattle.mask.proofs.intersects.Tie as tie
-use Rattle.mask.proofs.intersects.Reads as reads
-use Rattle.mask.proofs.intersects.Lts as lts
-use Rattle.mask.proofs.check_pair.Reads as check-pair-reads
-use Rattle.mask.proofs.inner.any_common.Reads as any-common-reads
 
 check-pair-requires : tie.Need-check-pair-requires
 check-pair-requires c κs = search needs

@@ -1,26 +1,20 @@
 -- `mask::new` meets its contract.  Assumes nothing.
 use mathlib.Core.Path.{_≡_, refl, sym, ap, _∙_}
-use Prim.Native.Nat.{ℕ, _+_, _-_, _*_, _/_, _%_, _^_, _≤_, _<_}
+use Prim.Native.Nat.{ℕ, _≤_, _<_}
 use native.Mathlib.Omega.{arith}
-use borrow.Author.Tests.{lt-ltb, le-ltb, le-leb, lt-leb}
-use lib.ListN.{length, getD}
-use Rattle.base.specs.declared.Checked.{Checked}
+use borrow.Author.Tests.{le-leb, lt-leb}
+use lib.ListN.{length}
 use mathlib.Core.List.{List, _++_}
 use mathlib.Core.Bool.{false}
-use lib.ListN.{take, drop}
+use lib.ListN.{drop}
 use lib.Seq.{length-take-le}
-use Rattle.base.proofs.Checks.{on-accepted, on-refused, kept, group-pass, group-stop, pass, stop, last-pass, last-stop}
+use Rattle.base.proofs.Checks.{on-accepted, kept, pass, stop, last-pass, last-stop}
 use Rattle.mask.specs.Mask.{wordsFor, maskWords}
 use Rattle.mask.specs.Answers.{newCheck}
 use Rattle.mask.proofs.Masks.{mask-length}
 use borrow.Author.Needs.{needs}
 use Rattle.mask.proofs.new.Statement.{statement}
 use Rattle.mask.proofs.new.Tie as tie
-use Rattle.mask.proofs.new.Reads as reads
-use Rattle.mask.proofs.new.Lts as lts
-use Rattle.base.proofs.refused.Reads as refused-reads
-use Rattle.mask.proofs.inner.clear.Reads as clear-reads
-use Rattle.mask.proofs.inner.words_for.Reads as words-for-reads
 
 refused-requires : tie.Need-refused-requires
 refused-requires c κs = search needs

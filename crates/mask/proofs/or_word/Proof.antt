@@ -1,20 +1,13 @@
 -- `mask::or_word` meets its contract.  Assumes nothing.
-use mathlib.Core.Path.{_≡_, refl, sym, ap, _∙_}
-use Prim.Native.Nat.{ℕ, _+_, _-_, _*_, _/_, _%_, _^_, _≤_, _<_}
+use mathlib.Core.Path.{_≡_, sym, _∙_}
 use native.Mathlib.Omega.{arith}
-use borrow.Author.Tests.{lt-ltb, le-ltb, le-leb, lt-leb}
-use lib.ListN.{length, getD}
 use Rattle.base.specs.declared.Checked.{Checked}
-use Rattle.base.proofs.Checks.{on-accepted, on-refused, kept, group-pass, group-stop, pass, stop, last-pass, last-stop}
-use Rattle.mask.specs.Mask.{inMask, maskCheck, IsMask}
+use Rattle.base.proofs.Checks.{on-accepted, kept}
+use Rattle.mask.specs.Mask.{maskCheck, IsMask}
 use Rattle.mask.proofs.Masks.{accepted-mask}
 use borrow.Author.Needs.{needs}
 use Rattle.mask.proofs.or_word.Statement.{statement}
 use Rattle.mask.proofs.or_word.Tie as tie
-use Rattle.mask.proofs.or_word.Reads as reads
-use Rattle.mask.proofs.or_word.Lts as lts
-use Rattle.mask.proofs.check.Reads as check-reads
-use Rattle.mask.proofs.inner.or_word.Reads as or-word-reads
 
 check-requires : tie.Need-check-requires
 check-requires c κs = search needs

@@ -1,22 +1,15 @@
 -- `mask::set` meets its contract.  Assumes nothing.
-use mathlib.Core.Path.{_≡_, refl, sym, ap, _∙_}
-use Prim.Native.Nat.{ℕ, _+_, _-_, _*_, _/_, _%_, _^_, _≤_, _<_}
+use mathlib.Core.Path.{_≡_, refl, sym, _∙_}
 use native.Mathlib.Omega.{arith}
-use borrow.Author.Tests.{lt-ltb, le-ltb, le-leb, lt-leb}
-use lib.ListN.{length, getD}
+use borrow.Author.Tests.{lt-ltb, le-ltb}
 use Rattle.base.specs.declared.Checked.{Checked}
-use Rattle.base.proofs.Checks.{on-accepted, on-refused, kept, group-pass, group-stop, pass, stop, last-pass, last-stop}
-use Rattle.mask.specs.Mask.{inMask, maskCheck, IsMask}
+use Rattle.base.proofs.Checks.{on-accepted, kept, group-pass, group-stop, last-pass, last-stop}
+use Rattle.mask.specs.Mask.{maskCheck, IsMask}
 use Rattle.mask.specs.Answers.{setCheck}
 use Rattle.mask.proofs.Masks.{accepted-mask}
 use borrow.Author.Needs.{needs}
 use Rattle.mask.proofs.set.Statement.{statement}
 use Rattle.mask.proofs.set.Tie as tie
-use Rattle.mask.proofs.set.Reads as reads
-use Rattle.mask.proofs.set.Lts as lts
-use Rattle.base.proofs.refused.Reads as refused-reads
-use Rattle.mask.proofs.check.Reads as check-reads
-use Rattle.mask.proofs.inner.put.Reads as put-reads
 
 check-requires : tie.Need-check-requires
 check-requires c κs = search needs

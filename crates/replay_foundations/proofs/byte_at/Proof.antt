@@ -3,8 +3,6 @@ use native.Mathlib.Omega.{arith}
 use borrow.Author.Needs.{needs}
 use Rattle.replay_foundations.proofs.byte_at.Statement.{statement}
 use Rattle.replay_foundations.proofs.byte_at.Tie as tie
-use Rattle.replay_foundations.proofs.byte_at.Reads as reads
-use Rattle.replay_foundations.proofs.byte_at.Lts as lts
 
 shared-slice-read-result : tie.Need-shared-slice-read-result
 shared-slice-read-result c = search needs

@@ -1,14 +1,10 @@
 -- `replay_foundations::put_list` meets its contract. The list keeps its length. Assumes nothing.
-use mathlib.Core.Path.{_≡_, refl, _∙_}
-use Prim.Native.Nat.{_+_, _*_, _-_, _≤_}
-use native.Mathlib.Omega.{arith}
+use mathlib.Core.Path.{_≡_}
+use Prim.Native.Nat.{_-_, _≤_}
 use lib.ListN.{length}
 use borrow.Author.Needs.{needs}
 use Rattle.replay_foundations.proofs.put_list.Statement.{statement}
 use Rattle.replay_foundations.proofs.put_list.Tie as tie
-use Rattle.replay_foundations.proofs.put_list.Reads as reads
-use Rattle.replay_foundations.proofs.put_list.Lts as lts
-use Rattle.replay_foundations.proofs.put_number.Reads as put-number-reads
 
 abbrev Inv-loop : tie.InvT-loop
 Inv-loop out₀ list k₀ out k = (k ≤ length list) × (length out ≡ length out₀)

@@ -1,18 +1,13 @@
-use mathlib.Core.Path.{_≡_, refl, sym, _∙_, ap}
-use Prim.Native.Nat.{ℕ, _+_, _-_, _≤_, _<_}
+use mathlib.Core.Path.{_≡_, sym}
+use Prim.Native.Nat.{_-_, _≤_, _<_}
 use native.Mathlib.Omega.{arith}
 use lib.ListN.{length, getD, drop}
-use lib.Ieee.{nan}
-use lib.Dec.{leb, ltb}
 use borrow.Author.Needs.{needs}
-use borrow.Author.Tests.{not-true, not-false, lt-ltb, le-ltb, le-leb, lt-leb}
-use Rattle.base.specs.Lists.{every, pairwise, rising, below}
-use Rattle.base.proofs.Lists.{every-step, every-stop, every-end, pairwise-step, pairwise-stop, pairwise-short}
+use borrow.Author.Tests.{lt-ltb, le-ltb}
+use Rattle.base.specs.Lists.{every, below}
+use Rattle.base.proofs.Lists.{every-step, every-stop, every-end}
 use Rattle.base.proofs.scan.all_below.Statement.{statement}
 use Rattle.base.proofs.scan.all_below.Tie as tie
-use Rattle.base.proofs.scan.all_below.Reads as reads
-use Rattle.base.proofs.scan.all_below.Lts as lts
-use Rattle.base.proofs.wide.Reads as wide-reads
 
 abbrev Inv-loop : tie.InvT-loop
 Inv-loop s bound i₀ i = (i ≤ length s) × (every (below bound) s ≡ every (below bound) (drop i s))

@@ -1,6 +1,6 @@
 -- `base::scan::all_below_wide` meets its contract. The scan's invariant: the test of the whole list is the test of what is left. Assumes nothing.
 use mathlib.Core.Path.{_≡_, sym}
-use Prim.Native.Nat.{ℕ, _-_, _≤_}
+use Prim.Native.Nat.{_-_, _≤_}
 use lib.ListN.{length, drop}
 use borrow.Author.Tests.{lt-ltb, le-ltb}
 use Rattle.base.specs.Lists.{every, below}
@@ -8,8 +8,6 @@ use Rattle.base.proofs.Lists.{every-step, every-stop, every-end}
 use borrow.Author.Needs.{needs}
 use Rattle.base.proofs.scan.all_below_wide.Statement.{statement}
 use Rattle.base.proofs.scan.all_below_wide.Tie as tie
-use Rattle.base.proofs.scan.all_below_wide.Reads as reads
-use Rattle.base.proofs.scan.all_below_wide.Lts as lts
 
 abbrev Inv-loop : tie.InvT-loop
 Inv-loop s bound i₀ i = (i ≤ length s) × (every (below bound) s ≡ every (below bound) (drop i s))

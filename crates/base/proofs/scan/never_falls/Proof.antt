@@ -1,17 +1,14 @@
-use mathlib.Core.Path.{_≡_, refl, sym, _∙_, ap}
-use Prim.Native.Nat.{ℕ, _+_, _-_, _≤_, _<_}
+use mathlib.Core.Path.{_≡_, sym, _∙_}
+use Prim.Native.Nat.{_-_, _≤_}
 use native.Mathlib.Omega.{arith}
-use lib.ListN.{length, getD, drop, length-drop}
-use lib.Ieee.{nan}
-use lib.Dec.{leb, ltb}
+use lib.ListN.{length, drop, length-drop}
+use lib.Dec.{leb}
 use borrow.Author.Needs.{needs}
-use borrow.Author.Tests.{not-true, not-false, lt-ltb, le-ltb, le-leb, lt-leb}
-use Rattle.base.specs.Lists.{every, pairwise, rising, below}
-use Rattle.base.proofs.Lists.{every-step, every-stop, every-end, pairwise-step, pairwise-stop, pairwise-short}
+use borrow.Author.Tests.{le-leb, lt-leb}
+use Rattle.base.specs.Lists.{rising}
+use Rattle.base.proofs.Lists.{pairwise-step, pairwise-stop, pairwise-short}
 use Rattle.base.proofs.scan.never_falls.Statement.{statement}
 use Rattle.base.proofs.scan.never_falls.Tie as tie
-use Rattle.base.proofs.scan.never_falls.Reads as reads
-use Rattle.base.proofs.scan.never_falls.Lts as lts
 
 abbrev Inv-loop : tie.InvT-loop
 Inv-loop s i₀ i = (i ≤ length s) × (rising s ≡ rising (drop i s))

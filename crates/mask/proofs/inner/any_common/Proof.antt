@@ -1,22 +1,17 @@
 -- `mask::inner::any_common` meets its contract. The invariant: no common node below word w. Assumes nothing.
-use mathlib.Core.Path.{_≡_, refl, sym, ap, _∙_}
-use mathlib.Core.Bool.{Bool, _&&_}
-use Prim.Native.Nat.{ℕ, _+_, _-_, _*_, _/_, _%_, _^_, _≤_, _<_}
+use mathlib.Core.Bool.{_&&_}
+use Prim.Native.Nat.{_-_, _*_, _≤_, _<_}
 use native.Mathlib.Omega.{arith}
 use native.Mathlib.Nat.{lt-of-le-of-lt}
 use lib.Bits.{bitAnd, and-le-l}
-use lib.Dec.{T}
 use lib.ListN.{length, getD}
 use Rattle.base.proofs.Bools.{and-l}
 use Rattle.base.proofs.Sets.{None}
 use Rattle.mask.specs.Mask.{inMask}
 use Rattle.mask.proofs.Masks.{is-length, is-fits}
 use Rattle.mask.proofs.Passes.{common-bits, none-turn, some-turn, any-found, any-over}
-use borrow.Author.Needs.{needs}
 use Rattle.mask.proofs.inner.any_common.Statement.{statement}
 use Rattle.mask.proofs.inner.any_common.Tie as tie
-use Rattle.mask.proofs.inner.any_common.Reads as reads
-use Rattle.mask.proofs.inner.any_common.Lts as lts
 
 abbrev Inv-loop : tie.InvT-loop
 Inv-loop len words other w₀ w = (w ≤ length words) × None (λ i. inMask words i && inMask other i) (64 * w)

@@ -1,17 +1,13 @@
 -- `mask::inner::any_node` meets its contract. The invariant: no node below word w. Assumes nothing.
-use mathlib.Core.Path.{_≡_, refl, sym, ap, _∙_}
-use Prim.Native.Nat.{ℕ, _+_, _-_, _*_, _/_, _%_, _^_, _≤_, _<_}
+use Prim.Native.Nat.{_-_, _*_, _≤_, _<_}
 use native.Mathlib.Omega.{arith}
 use lib.ListN.{length, getD}
 use Rattle.base.proofs.Sets.{None}
 use Rattle.mask.specs.Mask.{inMask}
-use Rattle.mask.proofs.Masks.{in-word, is-length, is-fits}
+use Rattle.mask.proofs.Masks.{in-word, is-fits}
 use Rattle.mask.proofs.Passes.{none-turn, some-turn, any-found, any-over}
-use borrow.Author.Needs.{needs}
 use Rattle.mask.proofs.inner.any_node.Statement.{statement}
 use Rattle.mask.proofs.inner.any_node.Tie as tie
-use Rattle.mask.proofs.inner.any_node.Reads as reads
-use Rattle.mask.proofs.inner.any_node.Lts as lts
 
 abbrev Inv-loop : tie.InvT-loop
 Inv-loop len words w₀ w = (w ≤ length words) × None (inMask words) (64 * w)

@@ -1,15 +1,10 @@
 -- `mask::inner::check_length` meets its contract.  Assumes nothing.
-use mathlib.Core.Path.{_≡_, refl, sym, ap, _∙_}
 use borrow.Author.Tests.{eq-eqb, ne-eqb}
 use Rattle.base.proofs.Checks.{length-pass, length-stop}
 use Rattle.mask.specs.Mask.{lengthCheck}
 use borrow.Author.Needs.{needs}
 use Rattle.mask.proofs.inner.check_length.Statement.{statement}
 use Rattle.mask.proofs.inner.check_length.Tie as tie
-use Rattle.mask.proofs.inner.check_length.Reads as reads
-use Rattle.mask.proofs.inner.check_length.Lts as lts
-use Rattle.base.proofs.wrong_length.Reads as wrong-length-reads
-use Rattle.mask.proofs.inner.check_shape.Reads as check-shape-reads
 
 wrong-length-requires : tie.Need-wrong-length-requires
 wrong-length-requires c κs = search needs

@@ -1,6 +1,6 @@
 -- `mask::inner::check_shape` meets its contract.  Assumes nothing.
-use mathlib.Core.Path.{_≡_, refl, sym, ap, _∙_}
-use Prim.Native.Nat.{ℕ, _+_, _-_, _*_, _/_, _%_, _^_, _≤_, _<_}
+use mathlib.Core.Path.{refl, sym, ap, _∙_}
+use Prim.Native.Nat.{ℕ, _-_, _/_, _%_, _^_, _<_}
 use native.Mathlib.Omega.{arith}
 use borrow.Author.Tests.{eq-eqb, ne-eqb}
 use lib.ListN.{length, getD}
@@ -12,11 +12,6 @@ use Rattle.mask.proofs.Shape.{clean-whole, clean-none, clean-some}
 use borrow.Author.Needs.{needs}
 use Rattle.mask.proofs.inner.check_shape.Statement.{statement}
 use Rattle.mask.proofs.inner.check_shape.Tie as tie
-use Rattle.mask.proofs.inner.check_shape.Reads as reads
-use Rattle.mask.proofs.inner.check_shape.Lts as lts
-use Rattle.base.proofs.refused.Reads as refused-reads
-use Rattle.base.proofs.wrong_length.Reads as wrong-length-reads
-use Rattle.mask.proofs.inner.words_for.Reads as words-for-reads
 
 words-for-requires : tie.Need-words-for-requires
 words-for-requires c κs = search needs

@@ -1,18 +1,13 @@
 -- `mask::inner::clear` meets its contract. The invariant: the first w words are 0. Assumes nothing.
 use mathlib.Core.Path.{_≡_, refl, sym, ap, _∙_}
-use mathlib.Core.Bool.{false}
-use Prim.Native.Nat.{ℕ, _+_, _-_, _*_, _/_, _%_, _^_, _≤_, _<_}
+use Prim.Native.Nat.{ℕ, _-_, _≤_}
 use native.Mathlib.Omega.{arith}
 use lib.ListN.{length, getD, replicate, length-replicate, getD-replicate, length-set}
 use Rattle.base.specs.Lists.{written}
 use Rattle.base.proofs.Lists.{put-next, put-whole}
-use Rattle.mask.specs.Mask.{wordsFor}
 use Rattle.mask.proofs.Masks.{mask-none}
-use borrow.Author.Needs.{needs}
 use Rattle.mask.proofs.inner.clear.Statement.{statement}
 use Rattle.mask.proofs.inner.clear.Tie as tie
-use Rattle.mask.proofs.inner.clear.Reads as reads
-use Rattle.mask.proofs.inner.clear.Lts as lts
 
 abbrev Inv-loop : tie.InvT-loop
 Inv-loop len words₀ w₀ words w = (w ≤ length words₀) × (length words ≡ length words₀) × (words ≡ written w (replicate {A = ℕ} (length words₀) 0) words₀)

@@ -1,23 +1,20 @@
 -- `mask::inner::combine` meets its contract. The invariant: the first w words are those of the result. Assumes nothing.
 use mathlib.Core.Path.{_≡_, refl, sym, ap, _∙_}
 use mathlib.Core.List.{List}
-use Prim.Native.Nat.{ℕ, _+_, _-_, _*_, _/_, _%_, _^_, _≤_, _<_}
+use Prim.Native.Nat.{ℕ, _-_, _≤_, _<_}
 use native.Mathlib.Omega.{arith}
 use lib.ListN.{length, getD, length-set}
 use Rattle.base.specs.Lists.{written}
 use Rattle.base.proofs.Lists.{put-next, put-whole, put-ahead}
 use Rattle.word.specs.Bits.{bitAt, wordFrom}
 use Rattle.word.specs.Answers.{on}
-use Rattle.mask.specs.Mask.{inMask, wordsFor}
+use Rattle.mask.specs.Mask.{inMask}
 use Rattle.mask.specs.Answers.{combined}
 use Rattle.mask.proofs.Masks.{mask-length, is-length}
 use Rattle.mask.proofs.Passes.{op-turn}
 use borrow.Author.Needs.{needs}
 use Rattle.mask.proofs.inner.combine.Statement.{statement}
 use Rattle.mask.proofs.inner.combine.Tie as tie
-use Rattle.mask.proofs.inner.combine.Reads as reads
-use Rattle.mask.proofs.inner.combine.Lts as lts
-use Rattle.word.proofs.Operation.apply.Reads as apply-reads
 
 abbrev Inv-loop : tie.InvT-loop
 Inv-loop len words₀ other op w₀ words w = (w ≤ length words₀) × (length words ≡ length words₀) × (words ≡ written w (combined (on op) len words₀ other) words₀)

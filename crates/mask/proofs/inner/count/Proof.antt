@@ -1,6 +1,6 @@
 -- `mask::inner::count` meets its contract. The invariant: the total is the count below word w. Assumes nothing.
-use mathlib.Core.Path.{_≡_, refl, sym, ap, _∙_}
-use Prim.Native.Nat.{ℕ, _+_, _-_, _*_, _/_, _%_, _^_, _≤_, _<_}
+use mathlib.Core.Path.{_≡_, sym, ap, _∙_}
+use Prim.Native.Nat.{ℕ, _+_, _-_, _*_, _^_, _≤_, _<_}
 use native.Mathlib.Omega.{arith}
 use lib.Count.{ones, ones-le}
 use lib.ListN.{length, getD}
@@ -9,11 +9,8 @@ use Rattle.base.proofs.Sets.{sum-zero, count-le}
 use Rattle.mask.specs.Mask.{inMask}
 use Rattle.mask.proofs.Masks.{in-word, is-length, is-fits}
 use Rattle.mask.proofs.Passes.{count-turn, count-all}
-use borrow.Author.Needs.{needs}
 use Rattle.mask.proofs.inner.count.Statement.{statement}
 use Rattle.mask.proofs.inner.count.Tie as tie
-use Rattle.mask.proofs.inner.count.Reads as reads
-use Rattle.mask.proofs.inner.count.Lts as lts
 
 abbrev Inv-loop : tie.InvT-loop
 Inv-loop len words total₀ w₀ total w = (w ≤ length words) × (total ≡ countBelow (64 * w) (inMask words))

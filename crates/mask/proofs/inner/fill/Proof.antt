@@ -1,8 +1,8 @@
 -- `mask::inner::fill` meets its contract. The invariant: the mask of the first k indices. Assumes nothing.
 use mathlib.Core.Path.{_≡_, refl, sym, ap, _∙_}
-use mathlib.Core.Bool.{Bool, true, false}
+use mathlib.Core.Bool.{true}
 use mathlib.Core.List.{List}
-use Prim.Native.Nat.{ℕ, _+_, _-_, _*_, _/_, _%_, _^_, _≤_, _<_}
+use Prim.Native.Nat.{ℕ, _-_, _≤_}
 use native.Mathlib.Omega.{arith}
 use borrow.Author.Tests.{ltb-true}
 use lib.ListN.{length, getD, take}
@@ -11,15 +11,10 @@ use Rattle.base.specs.Lists.{below, isIn}
 use Rattle.base.proofs.Lists.{every-at}
 use Rattle.mask.specs.Mask.{inMask, maskWords, IsMask}
 use Rattle.mask.specs.Answers.{withNode}
-use Rattle.mask.proofs.Masks.{mask-is, mask-cong}
+use Rattle.mask.proofs.Masks.{mask-is}
 use Rattle.mask.proofs.Stores.{fill-none, fill-turn}
-use borrow.Author.Needs.{needs}
 use Rattle.mask.proofs.inner.fill.Statement.{statement}
 use Rattle.mask.proofs.inner.fill.Tie as tie
-use Rattle.mask.proofs.inner.fill.Reads as reads
-use Rattle.mask.proofs.inner.fill.Lts as lts
-use Rattle.mask.proofs.inner.clear.Reads as clear-reads
-use Rattle.mask.proofs.inner.put.Reads as put-reads
 
 abbrev Inv-loop : tie.InvT-loop
 Inv-loop len indices words₀ k₀ words k = (k ≤ length indices) × (length words ≡ length words₀) × (words ≡ maskWords len (λ i. isIn i (take k indices)))

@@ -5,8 +5,6 @@ use Rattle.mask.proofs.Stores.{bit-read}
 use borrow.Author.Needs.{needs}
 use Rattle.mask.proofs.inner.holds.Statement.{statement}
 use Rattle.mask.proofs.inner.holds.Tie as tie
-use Rattle.mask.proofs.inner.holds.Reads as reads
-use Rattle.mask.proofs.inner.holds.Lts as lts
 
 mul-result : tie.Need-mul-result
 mul-result c = search needs

@@ -1,14 +1,10 @@
 -- `mask::inner::or_word` meets its contract. One word is stored, with the bits below the length only. Assumes nothing.
-use mathlib.Core.Path.{_≡_, refl, sym, ap, _∙_}
 use native.Mathlib.Omega.{arith}
 use Rattle.mask.proofs.Masks.{is-length}
 use Rattle.mask.proofs.Stores.{or-in, or-past}
 use borrow.Author.Needs.{needs}
 use Rattle.mask.proofs.inner.or_word.Statement.{statement}
 use Rattle.mask.proofs.inner.or_word.Tie as tie
-use Rattle.mask.proofs.inner.or_word.Reads as reads
-use Rattle.mask.proofs.inner.or_word.Lts as lts
-use Rattle.mask.proofs.inner.valid_bits.Reads as valid-bits-reads
 
 returns : tie.Need-returns
 returns c = or-past _ _ (c .before .before .pre) _ _ (c .if1 .taken)

@@ -1,15 +1,12 @@
 -- `mask::inner::put` meets its contract. One word is stored: the mask with that node in or out. Assumes nothing.
-use mathlib.Core.Path.{_≡_, refl, sym, ap, _∙_}
+use mathlib.Core.Path.{sym, ap, _∙_}
 use native.Mathlib.Omega.{arith}
-use mathlib.Core.Bool.{Bool, true, false}
 use Rattle.mask.specs.Answers.{withNode}
 use Rattle.mask.proofs.Masks.{is-length}
 use Rattle.mask.proofs.Stores.{put-in, put-out}
 use borrow.Author.Needs.{needs}
 use Rattle.mask.proofs.inner.put.Statement.{statement}
 use Rattle.mask.proofs.inner.put.Tie as tie
-use Rattle.mask.proofs.inner.put.Reads as reads
-use Rattle.mask.proofs.inner.put.Lts as lts
 
 shl-bit : tie.Need-shl-bit
 shl-bit c = search needs

@@ -1,13 +1,9 @@
 -- `mask::inner::valid_bits` meets its contract.  Assumes nothing.
-use mathlib.Core.Path.{_≡_, refl, sym, ap, _∙_}
-use native.Mathlib.Omega.{arith}
 use Rattle.word.proofs.Answers.{shl-pos}
 use Rattle.mask.proofs.Stores.{valid-all, valid-part}
 use borrow.Author.Needs.{needs}
 use Rattle.mask.proofs.inner.valid_bits.Statement.{statement}
 use Rattle.mask.proofs.inner.valid_bits.Tie as tie
-use Rattle.mask.proofs.inner.valid_bits.Reads as reads
-use Rattle.mask.proofs.inner.valid_bits.Lts as lts
 
 mul-left : tie.Need-mul-left
 mul-left c = search needs

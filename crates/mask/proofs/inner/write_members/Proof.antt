@@ -1,12 +1,12 @@
 -- `mask::inner::write_members` meets its contract. Members still to come: those of the word's bits that are left, then those of later words. Assumes nothing.
 use mathlib.Core.Path.{_≡_, refl, sym, ap, _∙_}
 use mathlib.Core.List.{List, [], map, _++_}
-use Prim.Native.Nat.{ℕ, _+_, _-_, _*_, _/_, _%_, _^_, _≤_, _<_}
+use Prim.Native.Nat.{ℕ, _+_, _-_, _*_, _^_, _≤_, _<_}
 use native.Mathlib.Omega.{arith}
 use native.Mathlib.Nat.{lt-of-le-of-lt}
 use lib.Bits.{bitAnd, and-le-l}
 use lib.Count.{trailingZeros, trailing-le}
-use lib.ListN.{length, getD, set, drop, length-set, length-drop}
+use lib.ListN.{length, getD, drop, length-set, length-drop}
 use Rattle.base.specs.Lists.{written}
 use Rattle.base.specs.Sets.{membersFrom, membersBelow}
 use Rattle.base.proofs.Lists.{put-next, put-put, put-end}
@@ -16,11 +16,8 @@ use Rattle.word.proofs.Bits.{clear-less}
 use Rattle.mask.specs.Mask.{inMask}
 use Rattle.mask.proofs.Masks.{is-length, is-fits}
 use Rattle.mask.proofs.Passes.{ahead, open-word, member-turn, word-done, members-all}
-use borrow.Author.Needs.{needs}
 use Rattle.mask.proofs.inner.write_members.Statement.{statement}
 use Rattle.mask.proofs.inner.write_members.Tie as tie
-use Rattle.mask.proofs.inner.write_members.Reads as reads
-use Rattle.mask.proofs.inner.write_members.Lts as lts
 
 -- the list that is written
 abbrev members : ℕ → List ℕ → List ℕ

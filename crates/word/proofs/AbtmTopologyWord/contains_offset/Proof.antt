@@ -3,8 +3,6 @@ use borrow.Author.Needs.{needs}
 use Rattle.word.proofs.Answers.{contains-in, contains-past}
 use Rattle.word.proofs.AbtmTopologyWord.contains_offset.Statement.{statement}
 use Rattle.word.proofs.AbtmTopologyWord.contains_offset.Tie as tie
-use Rattle.word.proofs.AbtmTopologyWord.contains_offset.Reads as reads
-use Rattle.word.proofs.AbtmTopologyWord.contains_offset.Lts as lts
 
 shl-result : tie.Need-shl-result
 shl-result c = search needs

@@ -3,9 +3,6 @@ use borrow.Author.Needs.{needs}
 use Rattle.word.proofs.Answers.{rank-out, rank-all, rank-in, rank-fits, shl-pos}
 use Rattle.word.proofs.AbtmTopologyWord.rank.Statement.{statement}
 use Rattle.word.proofs.AbtmTopologyWord.rank.Tie as tie
-use Rattle.word.proofs.AbtmTopologyWord.rank.Reads as reads
-use Rattle.word.proofs.AbtmTopologyWord.rank.Lts as lts
-use Rattle.word.proofs.AbtmTopologyWord.popcount.Reads as popcount-reads
 
 plain-requires : tie.Need-plain-requires
 plain-requires c κs = search needs

@@ -12,9 +12,6 @@ use Rattle.word.specs.Bits.{bitAt, setBits}
 use Rattle.word.proofs.Answers.{bits-left, select-turn, select-none, select-at}
 use Rattle.word.proofs.AbtmTopologyWord.select.Statement.{statement}
 use Rattle.word.proofs.AbtmTopologyWord.select.Tie as tie
-use Rattle.word.proofs.AbtmTopologyWord.select.Reads as reads
-use Rattle.word.proofs.AbtmTopologyWord.select.Lts as lts
-use Rattle.word.proofs.AbtmTopologyWord.popcount.Reads as popcount-reads
 
 abbrev Inv-loop : tie.InvT-loop
 Inv-loop ordinal bits₀ k₀ bits k = (k ≤ ordinal) × (bits < 2 ^ 64) × (setBits bits ≡ drop k (setBits bits₀))

@@ -7,8 +7,6 @@ use Rattle.word.proofs.Answers.{applied}
 use Rattle.word.proofs.Words.{or-bitwise, and-bitwise, and-not-bitwise}
 use Rattle.word.proofs.Operation.apply.Statement.{statement}
 use Rattle.word.proofs.Operation.apply.Tie as tie
-use Rattle.word.proofs.Operation.apply.Reads as reads
-use Rattle.word.proofs.Operation.apply.Lts as lts
 
 enum-told : tie.Need-enum-told
 enum-told c = search needs
