@@ -16,6 +16,17 @@ pub decide : (b : Bool) → T b ⊎ (T b → ⊥)
 decide true = inl tt
 decide false = inr (λ x. x)
 
+pub T-false : (b : Bool) → (T b → ⊥) → b ≡ false
+T-false true h = absurd (h tt)
+T-false false h = refl
+
+pub T-true : (b : Bool) → T b → b ≡ true
+T-true true h = refl
+T-true false h = absurd h
+
+pub T-of : (b : Bool) → b ≡ true → T b
+T-of b e = subst (λ (x : Bool). T x) (sym e) tt
+
 pub and-l : (a b : Bool) → T (a && b) → T a
 and-l true b h = tt
 and-l false b h = h
@@ -27,6 +38,13 @@ and-r false b h = absurd h
 pub and-i : (a b : Bool) → T a → T b → T (a && b)
 and-i true b h k = k
 and-i false b h k = h
+
+-- the same of a test that is said to be true
+pub and-left : (a b : Bool) → a && b ≡ true → a ≡ true
+and-left a b e = T-true a (and-l a b (T-of (a && b) e))
+
+pub and-right : (a b : Bool) → a && b ≡ true → b ≡ true
+and-right a b e = T-true b (and-r a b (T-of (a && b) e))
 
 pub or-l : (a b : Bool) → T a → T (a || b)
 or-l true b h = tt
@@ -43,17 +61,6 @@ or-e false b h = inr h
 pub or-false : (b : Bool) → (b || false) ≡ b
 or-false true = refl
 or-false false = refl
-
-pub T-false : (b : Bool) → (T b → ⊥) → b ≡ false
-T-false true h = absurd (h tt)
-T-false false h = refl
-
-pub T-true : (b : Bool) → T b → b ≡ true
-T-true true h = refl
-T-true false h = absurd h
-
-pub T-of : (b : Bool) → b ≡ true → T b
-T-of b e = subst (λ (x : Bool). T x) (sym e) tt
 
 pub not-T-of : (b : Bool) → b ≡ false → T b → ⊥
 not-T-of b e t = subst (λ (x : Bool). T x) e t

@@ -1,5 +1,5 @@
 -- Laws of lists: scans from the front, membership, lists made by a rule, and a list written over the front of a lent one. Assumes nothing.
-use mathlib.Core.Path.{_≡_, refl, sym, ap, ap₂, _∙_, subst}
+use mathlib.Core.Path.{_≡_, refl, sym, ap, ap₂, _∙_}
 use mathlib.Core.Bool.{Bool, true, false, _&&_, _||_}
 use mathlib.Core.List.{List, [], _∷_, _++_, append-nil}
 use mathlib.Core.Logic.{_⊎_, inl, inr}
@@ -12,17 +12,9 @@ use lib.Dec.{T, eqb, eqb→eq}
 use lib.ListN.{length, getD, set, take, drop, drop-of-length-le, length-append, length-take, length-drop}
 use lib.Seq.{slice, drop-cons, take-suc, length-take-le, set-at, append-snoc, take-all, drop-length, getD-drop, getD-take, length-slice, slice-empty, drop-append-le}
 use Rattle.base.specs.Lists.{every, pairwise, isIn, listFrom, written, over}
-use Rattle.base.proofs.Bools.{or-l, or-r, or-e, or-false, T-of}
+use Rattle.base.proofs.Bools.{and-left, and-right, or-l, or-r, or-e, or-false, T-of}
 
 -- ---- a loop that tests a list from the front: the test of the whole list is the test of what is left of it
-
-pub and-left : (a b : Bool) → a && b ≡ true → a ≡ true
-and-left true b e = refl
-and-left false b e = e
-
-pub and-right : (a b : Bool) → a && b ≡ true → b ≡ true
-and-right true b e = e
-and-right false b e = absurd (subst (λ (x : Bool). T x) (sym e) tt)
 
 module _ {A : Type 0} (f : A → Bool) (d : A) (s : List A) where
   pub every-step : (i : ℕ) → i < length s → f (getD s i d) ≡ true → every f s ≡ every f (drop i s) → every f s ≡ every f (drop (i + 1) s)

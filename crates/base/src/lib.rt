@@ -26,6 +26,17 @@ pub enum Checked {
     Refused(Refusal),
 }
 
+// Yes or no.
+pub enum Truth {
+    Is(bool),
+    Refused(Refusal),
+}
+
+pub enum Counted {
+    Count(u64),
+    Refused(Refusal),
+}
+
 impl Refusal {
     pub fn plain(number: u32) -> Self
         ensures { λ r. ⌜ r ≡ plain number ⌝ }

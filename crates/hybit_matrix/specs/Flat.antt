@@ -6,8 +6,8 @@ use Rattle.base.specs.declared.Refusal.{Refusal}
 use Rattle.base.specs.declared.Checked.{Checked}
 use Rattle.word.specs.declared.Ranked.{Ranked}
 use Rattle.word.specs.declared.Selected.{Selected}
-use Rattle.mask.specs.declared.Truth.{Truth}
-use Rattle.mask.specs.declared.Counted.{Counted}
+use Rattle.base.specs.declared.Truth.{Truth}
+use Rattle.base.specs.declared.Counted.{Counted}
 use Rattle.hybit_matrix.specs.declared.Answer.{Answer}
 
 -- a refusal has its number and figures, an answer the number 0

@@ -1,8 +1,8 @@
 // The static library: every public call as a C function, its answer as one flat record. Slices pass as a pointer and a length.
 use base::Checked;
+use base::Counted;
 use base::Refusal;
-use mask::Counted;
-use mask::Truth;
+use base::Truth;
 use word::AbtmTopologyWord;
 use word::Ranked;
 use word::Selected;

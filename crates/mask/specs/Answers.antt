@@ -10,8 +10,8 @@ use Rattle.base.specs.Sets.{anyBelow, countBelow, membersBelow}
 use Rattle.base.specs.declared.Checked.{Checked}
 use Rattle.word.specs.Bits.{bitAt}
 use Rattle.mask.specs.Mask.{inMask, wordsFor, maskWords, maskCheck, lengthCheck}
-use Rattle.mask.specs.declared.Truth.{Truth}
-use Rattle.mask.specs.declared.Counted.{Counted}
+use Rattle.base.specs.declared.Truth.{Truth}
+use Rattle.base.specs.declared.Counted.{Counted}
 
 -- ---- new: 1, 25; the empty mask
 

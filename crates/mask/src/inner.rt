@@ -1,4 +1,5 @@
-// The work of a mask's functions, for callers that have checked: no part of the API.
+// The work of a mask's functions, for callers that have checked: no part of the API. Where the code has no use for `len`, the contract has:
+// it says which mask the words are.
 use base::Checked;
 use word::AbtmTopologyWord;
 use word::Operation;

@@ -1,6 +1,8 @@
 // A mask: a length, and 64-bit words; node i is bit i mod 64 of word i / 64. The functions of DofMask on a lent word list.
 use base::Checked;
+use base::Counted;
 use base::Refusal;
+use base::Truth;
 use word::Operation;
 ghost use mathlib.Core.Path.{_≡_};
 ghost use Rattle.word.specs.Answers.{on};
@@ -8,16 +10,6 @@ ghost use Rattle.mask.specs.Mask.{maskCheck};
 ghost use Rattle.mask.specs.Answers.{newCheck, newWords, fromCheck, fromWords, emptyAnswer, countAnswer, containsAnswer, setCheck, setWords, pairCheck, combinedWords, union, intersection, andNot, intersectsAnswer, indicesAnswer, indicesList, orWordWords};
 
 pub mod inner;
-
-pub enum Truth {
-    Is(bool),
-    Refused(Refusal),
-}
-
-pub enum Counted {
-    Count(u64),
-    Refused(Refusal),
-}
 
 pub fn check(len: usize, words: &[u64]) -> Checked
     ensures { λ r. ⌜ r ≡ maskCheck len (now (words .entry)) ⌝ }

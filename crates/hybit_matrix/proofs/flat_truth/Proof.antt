@@ -2,7 +2,7 @@
 use mathlib.Core.Path.{sym, ap, _∙_}
 use Rattle.hybit_matrix.specs.Flat.{flatTruth}
 use mathlib.Core.Bool.{Bool}
-use Rattle.mask.specs.declared.Truth.{Truth}
+use Rattle.base.specs.declared.Truth.{Truth}
 use borrow.Author.Needs.{needs}
 use Rattle.hybit_matrix.proofs.flat_truth.Statement.{statement}
 use Rattle.hybit_matrix.proofs.flat_truth.Tie as tie

@@ -4,7 +4,7 @@ use native.Mathlib.Omega.{arith}
 use Rattle.base.specs.declared.Checked.{Checked}
 use Rattle.base.proofs.Checks.{on-accepted, on-refused}
 use Rattle.mask.specs.Mask.{maskCheck, IsMask}
-use Rattle.mask.specs.declared.Truth.{Truth}
+use Rattle.base.specs.declared.Truth.{Truth}
 use Rattle.mask.proofs.Masks.{accepted-mask, within, past}
 use borrow.Author.Needs.{needs}
 use Rattle.mask.proofs.contains.Statement.{statement}

@@ -4,7 +4,7 @@ use native.Mathlib.Omega.{arith}
 use Rattle.base.specs.declared.Checked.{Checked}
 use Rattle.base.proofs.Checks.{on-accepted, on-refused}
 use Rattle.mask.specs.Mask.{maskCheck, IsMask}
-use Rattle.mask.specs.declared.Counted.{Counted}
+use Rattle.base.specs.declared.Counted.{Counted}
 use Rattle.mask.proofs.Masks.{accepted-mask}
 use borrow.Author.Needs.{needs}
 use Rattle.mask.proofs.count_ones.Statement.{statement}

@@ -9,7 +9,7 @@ use Rattle.base.specs.Sets.{countBelow}
 use Rattle.base.proofs.Checks.{on-accepted, on-refused, kept, group-pass, group-stop, last-pass, last-stop}
 use Rattle.mask.specs.Mask.{inMask, maskCheck, IsMask}
 use Rattle.mask.specs.Answers.{indicesCheck}
-use Rattle.mask.specs.declared.Counted.{Counted}
+use Rattle.base.specs.declared.Counted.{Counted}
 use Rattle.mask.proofs.Masks.{accepted-mask}
 use borrow.Author.Needs.{needs}
 use Rattle.mask.proofs.indices.Statement.{statement}

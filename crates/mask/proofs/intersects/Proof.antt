@@ -5,7 +5,7 @@ use Rattle.base.specs.declared.Checked.{Checked}
 use Rattle.base.proofs.Checks.{on-accepted, on-refused}
 use Rattle.mask.specs.Mask.{IsMask}
 use Rattle.mask.specs.Answers.{pairCheck}
-use Rattle.mask.specs.declared.Truth.{Truth}
+use Rattle.base.specs.declared.Truth.{Truth}
 use Rattle.mask.proofs.Masks.{accepted-pair}
 use borrow.Author.Needs.{needs}
 use Rattle.mask.proofs.intersects.Statement.{statement}

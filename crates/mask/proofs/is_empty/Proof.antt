@@ -5,7 +5,7 @@ use Rattle.base.specs.declared.Checked.{Checked}
 use mathlib.Core.Bool.{Bool, not}
 use Rattle.base.proofs.Checks.{on-accepted, on-refused}
 use Rattle.mask.specs.Mask.{maskCheck, IsMask}
-use Rattle.mask.specs.declared.Truth.{Truth}
+use Rattle.base.specs.declared.Truth.{Truth}
 use Rattle.mask.proofs.Masks.{accepted-mask}
 use borrow.Author.Needs.{needs}
 use Rattle.mask.proofs.is_empty.Statement.{statement}
