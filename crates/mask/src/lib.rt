@@ -11,6 +11,7 @@ ghost use Rattle.mask.specs.Answers.{newCheck, newWords, fromCheck, from
 
 pub mod inner;
 
+// A mask on its own: 1, 11 for its word count, 12.
 pub fn check(len: usize, words: &[u64]) -> Checked
     ensures { λ r. ⌜ r ≡ maskCheck len (now (words .entry)) ⌝ }
 {
@@ -73,6 +74,7 @@ pub fn count_ones(len: usize, words: &[u64]) -> Counted
     }
 }
 
+// Past the length the answer is no.
 pub fn contains(len: usize, words: &[u64], index: u64) -> Truth
     ensures { λ r. ⌜ r ≡ containsAnswer len (now (words .entry)) index ⌝ }
 {
@@ -127,6 +129,7 @@ pub fn and_not_assign(len: usize, words: &mut [u64], other_len: usize, other: &[
     combine_assign(len, words, other_len, other, Operation::AndNot)
 }
 
+// Two masks: the first, then the second with its length against the first's.
 fn combine_assign(
     len: usize,
     words: &mut [u64],
@@ -167,6 +170,7 @@ fn check_pair(len: usize, words: &[u64], other_len: usize, other: &[u64]) -> Che
     }
 }
 
+// The members in rising order; answers their count.
 pub fn indices(len: usize, words: &[u64], out: &mut [u64]) -> Counted
     ensures { λ r. ⌜ r ≡ indicesAnswer len (now (words .entry)) (now (out .entry)) ⌝ }
     ensures { λ r. ⌜ now (out .exit) ≡ indicesList len (now (words .entry)) (now (out .entry)) ⌝ }
@@ -185,6 +189,7 @@ pub fn indices(len: usize, words: &[u64], out: &mut [u64]) -> Counted
     }
 }
 
+// Past the words nothing changes, and bits past the length are dropped.
 pub fn or_word(len: usize, words: &mut [u64], word_index: u64, bits: u64) -> Checked
     ensures { λ r. ⌜ r ≡ maskCheck len (now (words .entry)) ⌝ }
     ensures { λ r. ⌜ now (words .exit) ≡ orWordWords len (now (words .entry)) «word_index» bits ⌝ }

@@ -1,4 +1,4 @@
--- `hybit_matrix::flat_checked` meets its contract.  Assumes nothing.
+-- `hybit_matrix::flat_checked` meets its contract. Assumes nothing.
 use mathlib.Core.Path.{sym, ap, _∙_}
 use Rattle.hybit_matrix.specs.Flat.{flatChecked}
 use borrow.Author.Needs.{needs}

@@ -1,4 +1,4 @@
--- `hybit_matrix::hybit_mask_indices` meets its contract.  Assumes nothing.
+-- `hybit_matrix::hybit_mask_indices` meets its contract. Assumes nothing.
 use mathlib.Core.Path.{ap, _∙_}
 use Rattle.hybit_matrix.specs.Flat.{flatCounted}
 use borrow.Author.Needs.{needs}

@@ -1,4 +1,4 @@
--- `hybit_matrix::hybit_word_popcount` meets its contract.  Assumes nothing.
+-- `hybit_matrix::hybit_word_popcount` meets its contract. Assumes nothing.
 use mathlib.Core.Path.{ap, _∙_}
 use Rattle.word.specs.declared.AbtmTopologyWord.{AbtmTopologyWord}
 use Rattle.base.specs.Sets.{countBelow}

@@ -1,4 +1,4 @@
--- `mask::check` meets its contract.  Assumes nothing.
+-- `mask::check` meets its contract. Assumes nothing.
 use borrow.Author.Tests.{le-leb, lt-leb}
 use Rattle.base.proofs.Checks.{pass, stop}
 use Rattle.mask.specs.Mask.{maskCheck}

@@ -1,4 +1,4 @@
--- `mask::count_ones` meets its contract.  Assumes nothing.
+-- `mask::count_ones` meets its contract. Assumes nothing.
 use mathlib.Core.Path.{_≡_, sym, ap, _∙_}
 use native.Mathlib.Omega.{arith}
 use Rattle.base.specs.declared.Checked.{Checked}

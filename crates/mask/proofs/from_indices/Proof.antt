@@ -1,4 +1,4 @@
--- `mask::from_indices` meets its contract.  Assumes nothing.
+-- `mask::from_indices` meets its contract. Assumes nothing.
 use mathlib.Core.Path.{_≡_, refl, sym, ap, _∙_}
 use Prim.Native.Nat.{ℕ, _≤_, _<_}
 use native.Mathlib.Omega.{arith}

@@ -1,4 +1,4 @@
--- `mask::is_empty` meets its contract.  Assumes nothing.
+-- `mask::is_empty` meets its contract. Assumes nothing.
 use mathlib.Core.Path.{_≡_, sym, ap, _∙_}
 use native.Mathlib.Omega.{arith}
 use Rattle.base.specs.declared.Checked.{Checked}

@@ -1,4 +1,4 @@
--- `mask::new` meets its contract.  Assumes nothing.
+-- `mask::new` meets its contract. Assumes nothing.
 use mathlib.Core.Path.{_≡_, refl, sym, ap, _∙_}
 use Prim.Native.Nat.{ℕ, _≤_, _<_}
 use native.Mathlib.Omega.{arith}

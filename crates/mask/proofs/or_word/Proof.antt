@@ -1,4 +1,4 @@
--- `mask::or_word` meets its contract.  Assumes nothing.
+-- `mask::or_word` meets its contract. Assumes nothing.
 use mathlib.Core.Path.{_≡_, sym, _∙_}
 use native.Mathlib.Omega.{arith}
 use Rattle.base.specs.declared.Checked.{Checked}

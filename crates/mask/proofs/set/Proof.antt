@@ -1,4 +1,4 @@
--- `mask::set` meets its contract.  Assumes nothing.
+-- `mask::set` meets its contract. Assumes nothing.
 use mathlib.Core.Path.{_≡_, refl, sym, _∙_}
 use native.Mathlib.Omega.{arith}
 use borrow.Author.Tests.{lt-ltb, le-ltb}

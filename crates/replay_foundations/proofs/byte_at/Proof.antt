@@ -1,4 +1,4 @@
--- `replay_foundations::byte_at` meets its contract.  Assumes nothing.
+-- `replay_foundations::byte_at` meets its contract. Assumes nothing.
 use native.Mathlib.Omega.{arith}
 use borrow.Author.Needs.{needs}
 use Rattle.replay_foundations.proofs.byte_at.Statement.{statement}

@@ -1,4 +1,4 @@
--- `mask::inner::check_length` meets its contract.  Assumes nothing.
+-- `mask::inner::check_length` meets its contract. Assumes nothing.
 use borrow.Author.Tests.{eq-eqb, ne-eqb}
 use Rattle.base.proofs.Checks.{length-pass, length-stop}
 use Rattle.mask.specs.Mask.{lengthCheck}

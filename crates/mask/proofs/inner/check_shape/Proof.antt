@@ -1,4 +1,4 @@
--- `mask::inner::check_shape` meets its contract.  Assumes nothing.
+-- `mask::inner::check_shape` meets its contract. Assumes nothing.
 use mathlib.Core.Path.{refl, sym, ap, _∙_}
 use Prim.Native.Nat.{ℕ, _-_, _/_, _%_, _^_, _<_}
 use native.Mathlib.Omega.{arith}

@@ -1,4 +1,4 @@
--- `mask::inner::valid_bits` meets its contract.  Assumes nothing.
+-- `mask::inner::valid_bits` meets its contract. Assumes nothing.
 use Rattle.word.proofs.Answers.{shl-pos}
 use Rattle.mask.proofs.Stores.{valid-all, valid-part}
 use borrow.Author.Needs.{needs}
