@@ -1,60 +1,29 @@
 -- A pass over a mask's words, one word a turn: whether a node is in it, how many are, an operation with another mask, the members in rising
 -- order. Assumes nothing.
-use mathlib.Core.Path.{_≡_, refl, sym, ap, ap₂, _∙_, subst}
-use mathlib.Core.Logic.{_⊎_, inl, inr, _≢_}
+use mathlib.Core.Path.{_≡_, refl, sym, ap, ap₂, _∙_}
 use mathlib.Core.Bool.{Bool, true, false, _&&_}
 use mathlib.Core.List.{List, _++_, map}
 use Prim.Native.Nat.{ℕ, _+_, _-_, _*_, _^_, _≤_, _<_}
 use native.Mathlib.Omega.{arith}
-use native.Mathlib.Nat.{add-zero}
 use lib.Bits.{bitAnd}
-use lib.Count.{ones, trailingZeros}
+use lib.Count.{trailingZeros}
 use lib.Dec.{T, ltb}
 use lib.ListN.{length, getD, drop}
-use Rattle.base.specs.Sets.{anyBelow, countBelow, one-if, membersFrom, membersBelow}
-use Rattle.base.proofs.Bools.{lt-or-le, not-T-of, T-true}
+use Rattle.base.specs.Sets.{anyBelow, countBelow, membersFrom, membersBelow}
+use Rattle.base.proofs.Bools.{T-true}
 use Rattle.base.proofs.Lists.{at-head}
-use Rattle.base.proofs.Sets.{None, any-i, any-none, sum-append, count-cong, count-past, members-append, members-past, members-shift, members-ext}
+use Rattle.base.proofs.Sets.{None, any-i, any-none, count-past, members-append, members-past}
 use Rattle.word.specs.Bits.{bitAt, setBits, wordFrom}
 use Rattle.word.specs.Answers.{on}
 use Rattle.word.specs.declared.Operation.{Operation}
-use Rattle.word.proofs.Bits.{zero-bit, bit-and, ones-count, lowest, no-bits}
-use Rattle.word.proofs.Words.{some-bit, word-ext, on-words}
+use Rattle.word.proofs.Bits.{bit-and, lowest, no-bits}
+use Rattle.word.proofs.Turns.{turn-members}
+use Rattle.word.proofs.Words.{word-ext, on-words}
 use Rattle.mask.specs.Mask.{inMask, IsMask}
 use Rattle.mask.specs.Answers.{combined}
 use Rattle.mask.proofs.Masks.{in-word, word-at, is-length, is-word, is-below}
 
--- ---- a set whose bits at word w are those of the number m
-
-module _ (p : ℕ → Bool) (w m : ℕ) (bits : (j : ℕ) → j < 64 → p (64 * w + j) ≡ bitAt m j) where
-  -- the word is 0: nothing here
-  pub none-turn : m ≡ 0 → None p (64 * w) → None p (64 * (w + 1))
-  none-turn z none i h t = go (lt-or-le i (64 * w))
-    where
-      go : (i < 64 * w) ⊎ (64 * w ≤ i) → ⊥
-      go (inl l) = none i l t
-      go (inr l) =
-          let e : i ≡ 64 * w + (i - 64 * w) = omega arith in
-          not-T-of (p i) (ap p e ∙ bits (i - 64 * w) (omega arith) ∙ ap (λ (x : ℕ). bitAt x (i - 64 * w)) z ∙ zero-bit (i - 64 * w)) t
-
-  -- it is not: a member
-  pub some-turn : m < 2 ^ 64 → m ≢ 0 → (i : ℕ) × (64 * w ≤ i) × (i < 64 * (w + 1)) × T (p i)
-  some-turn fits n =
-      let r : (j : ℕ) × (j < 64) × T (bitAt m j) = some-bit 64 m fits n in
-      (64 * w + r .0, omega arith, omega arith, subst (λ (b : Bool). T b) (sym (bits (r .0) (r .1))) (r .2))
-
-  -- its count
-  pub count-turn : m < 2 ^ 64 → countBelow (64 * w) p + ones m ≡ countBelow (64 * (w + 1)) p
-  count-turn fits =
-      let e : 64 * w + 64 ≡ 64 * (w + 1) = omega arith in
-      ap (λ (x : ℕ). countBelow (64 * w) p + x) (ones-count 64 m fits ∙ count-cong 64 (bitAt m) (λ j. p (64 * w + j)) (λ j h. sym (bits j h)))
-      ∙ sym (sum-append (64 * w) 64 (λ i. one-if (p i))) ∙ ap (λ (n : ℕ). countBelow n p) e
-
-  -- its members
-  pub turn-members : membersFrom p (64 * w) 64 ≡ map (λ (i : ℕ). 64 * w + i) (setBits m)
-  turn-members =
-      ap (λ (b : ℕ). membersFrom p b 64) (sym (add-zero (64 * w))) ∙ members-shift p (64 * w) 0 64
-      ∙ ap (map (λ (i : ℕ). 64 * w + i)) (members-ext (λ i. p (64 * w + i)) (bitAt m) 0 64 (λ i l u. bits i (omega arith)))
+-- ---- two masks
 
 -- the bits of two words in common
 pub common-bits : (a b : List ℕ) (w j : ℕ) → j < 64 → (inMask a (64 * w + j) && inMask b (64 * w + j)) ≡ bitAt (bitAnd (getD a w 0) (getD b w 0)) j

@@ -2,19 +2,18 @@
 use mathlib.Core.Path.{_≡_, refl, sym, ap, ap₂, _∙_, subst}
 use mathlib.Core.Logic.{_⊎_, inl, inr, _≢_}
 use mathlib.Core.Bool.{Bool, true, false, not, _&&_, _||_}
-use mathlib.Core.List.{map}
 use Prim.Native.Nat.{ℕ, zero, suc, _+_, _-_, _*_, _/_, _%_, _^_, _≤_, _<_}
 use native.Mathlib.Omega.{arith}
-use native.Mathlib.Nat.{not-suc-le-zero, lt-of-le-of-lt, lt-of-lt-of-le, div-eq-of-lt, add-zero, zero-add}
+use native.Mathlib.Nat.{not-suc-le-zero, lt-of-le-of-lt, lt-of-lt-of-le, div-eq-of-lt, zero-add}
 use borrow.Author.Tests.{eq-eqb, ne-eqb, lt-ltb, le-ltb}
 use lib.Bits.{bitAnd, bitOr, and-le-l, or-lt}
 use lib.Count.{ones}
 use lib.Dec.{T, eqb, ltb, eqb→eq}
 use lib.Pow.{pow-mono, pow-lt, pow-pos}
-use Rattle.base.specs.Sets.{one-if, anyBelow, countBelow, membersFrom}
+use Rattle.base.specs.Sets.{one-if, anyBelow, countBelow}
 use Rattle.base.proofs.Bools.{bool-ext, decide, T-false, not-T-of, lt-or-le}
-use Rattle.base.proofs.Sets.{any-i, any-e, any-none, members-shift, members-ext, count-cong}
-use Rattle.word.specs.Bits.{bitAt, setBits, wordFrom, wordOf}
+use Rattle.base.proofs.Sets.{any-i, any-e, any-none, count-cong}
+use Rattle.word.specs.Bits.{bitAt, wordFrom}
 use Rattle.word.proofs.Bits.{bit-zero, bit-suc, bit-or, bit-and, bit-not, bit-pow, zero-bit, ones-count}
 
 -- ---- a word and its bits
@@ -146,15 +145,7 @@ pub word-op : (k : ℕ) (op : ℕ → ℕ → ℕ) (on : Bool → Bool → Bool)
     → op (wordFrom p k at) (wordFrom q k at) ≡ wordFrom (λ i. on (p i) (q i)) k at
 word-op k op on laws p q at = op-bits k op on laws (wordFrom p k at) (wordFrom q k at) (word-lt p k at) (word-lt q k at) ∙ on-words k on p q at
 
--- ---- a word's members and their number
-
--- the set bits of word w of a set are its members there
-pub word-members : (p : ℕ → Bool) (w : ℕ) → membersFrom p (64 * w) 64 ≡ map (λ (i : ℕ). 64 * w + i) (setBits (wordOf p w))
-word-members p w =
-    ap (λ (b : ℕ). membersFrom p b 64) (sym (add-zero (64 * w)))
-    ∙ members-shift p (64 * w) 0 64
-    ∙ ap (map (λ (i : ℕ). 64 * w + i))
-    (members-ext (λ i. p (64 * w + i)) (bitAt (wordOf p w)) 0 64 (λ i l u. sym (bit-word p 64 (64 * w) i (omega arith))))
+-- ---- a word's number of members
 
 -- `count_ones`
 pub ones-word : (p : ℕ → Bool) (k at : ℕ) → ones (wordFrom p k at) ≡ countBelow k (λ j. p (at + j))

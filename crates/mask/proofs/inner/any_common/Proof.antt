@@ -9,7 +9,8 @@ use Rattle.base.proofs.Bools.{and-l}
 use Rattle.base.proofs.Sets.{None}
 use Rattle.mask.specs.Mask.{inMask}
 use Rattle.mask.proofs.Masks.{is-length, is-fits}
-use Rattle.mask.proofs.Passes.{common-bits, none-turn, some-turn, any-found, any-over}
+use Rattle.word.proofs.Turns.{none-turn, some-turn}
+use Rattle.mask.proofs.Passes.{common-bits, any-found, any-over}
 use Rattle.mask.proofs.inner.any_common.Statement.{statement}
 use Rattle.mask.proofs.inner.any_common.Tie as tie
 

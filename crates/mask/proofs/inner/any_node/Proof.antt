@@ -5,7 +5,8 @@ use lib.ListN.{length, getD}
 use Rattle.base.proofs.Sets.{None}
 use Rattle.mask.specs.Mask.{inMask}
 use Rattle.mask.proofs.Masks.{in-word, is-fits}
-use Rattle.mask.proofs.Passes.{none-turn, some-turn, any-found, any-over}
+use Rattle.word.proofs.Turns.{none-turn, some-turn}
+use Rattle.mask.proofs.Passes.{any-found, any-over}
 use Rattle.mask.proofs.inner.any_node.Statement.{statement}
 use Rattle.mask.proofs.inner.any_node.Tie as tie
 

@@ -8,7 +8,8 @@ use Rattle.base.specs.Sets.{countBelow}
 use Rattle.base.proofs.Sets.{sum-zero, count-le}
 use Rattle.mask.specs.Mask.{inMask}
 use Rattle.mask.proofs.Masks.{in-word, is-length, is-fits}
-use Rattle.mask.proofs.Passes.{count-turn, count-all}
+use Rattle.word.proofs.Turns.{count-turn}
+use Rattle.mask.proofs.Passes.{count-all}
 use Rattle.mask.proofs.inner.count.Statement.{statement}
 use Rattle.mask.proofs.inner.count.Tie as tie
 
