@@ -1,7 +1,6 @@
 //! What a call answers.
 
-/// The flat answer of the port's exported functions.
-#[repr(C)]
+/// The fields of both of the port's records.
 #[derive(Clone, Copy, Debug, PartialEq, Eq)]
 pub struct Answer {
     /// The refusal's number, 0 if the call was accepted.
@@ -10,19 +9,52 @@ pub struct Answer {
     pub present: bool,
     pub expected: u64,
     pub actual: u64,
-    /// A count, a bit number, or 0 or 1 for no or yes.
-    pub value: u64,
+    /// The only value of most calls.
+    pub first: u64,
+    pub second: u64,
+}
+
+impl From<hybit_port::Answer> for Answer {
+    fn from(flat: hybit_port::Answer) -> Self {
+        Self {
+            number: flat.number,
+            present: flat.present,
+            expected: flat.expected,
+            actual: flat.actual,
+            first: flat.value,
+            second: 0,
+        }
+    }
+}
+
+impl From<hybit_port::PairAnswer> for Answer {
+    fn from(flat: hybit_port::PairAnswer) -> Self {
+        Self {
+            number: flat.number,
+            present: flat.present,
+            expected: flat.expected,
+            actual: flat.actual,
+            first: flat.first,
+            second: flat.second,
+        }
+    }
 }
 
 impl Answer {
     /// Accepted, with a value.
     pub fn told(value: u64) -> Self {
+        Self::pair(value, 0)
+    }
+
+    /// Accepted, with two values.
+    pub fn pair(first: u64, second: u64) -> Self {
         Self {
             number: 0,
             present: true,
             expected: 0,
             actual: 0,
-            value,
+            first,
+            second,
         }
     }
 

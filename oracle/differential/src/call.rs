@@ -21,6 +21,32 @@ pub struct Mask {
     pub words: Vec<u64>,
 }
 
+/// The four lists of a layout, one element of each for every block.
+#[derive(Clone, PartialEq)]
+pub struct Blocks {
+    pub kinds: Vec<u8>,
+    pub ids: Vec<u64>,
+    pub fields: Vec<u32>,
+    pub components: Vec<u32>,
+}
+
+#[derive(Clone, PartialEq)]
+pub struct Layout {
+    pub blocks: Blocks,
+    pub offsets: Vec<u64>,
+}
+
+/// What is asked of a layout once it is built.
+#[derive(Clone, PartialEq)]
+pub enum Question {
+    Check,
+    TotalDofs,
+    BlockRange(u64),
+    Locate(u64),
+    ValidateSquareMatrixSize { nrows: usize, ncols: usize },
+    FieldMask { field_id: u32, out: Vec<u64> },
+}
+
 #[derive(Clone, PartialEq)]
 pub enum Call {
     WordBits,
@@ -66,11 +92,17 @@ pub enum Call {
         word_index: u64,
         bits: u64,
     },
+    KindOf(u32),
+    LayoutNew {
+        blocks: Blocks,
+        out: Vec<u64>,
+    },
+    Layout(Layout, Question),
 }
 
 /// The port's function for each call, with the refusals it can give. A call's
-/// code in the recorded answers is its place here, from 1.
-pub const FUNCTIONS: [(&str, &[u32]); 22] = [
+/// code is its place here, from 1.
+pub const FUNCTIONS: [(&str, &[u32]); 30] = [
     ("hybit_word_bits", &[]),
     ("hybit_word_word_index", &[]),
     ("hybit_word_base_col", &[]),
@@ -93,6 +125,17 @@ pub const FUNCTIONS: [(&str, &[u32]); 22] = [
     ("hybit_mask_intersects", &[1, 11, 12]),
     ("hybit_mask_indices", &[1, 11, 12, 25]),
     ("hybit_mask_or_word", &[1, 11, 12]),
+    ("hybit_kind_of", &[17]),
+    ("hybit_layout_new", &[1, 11, 14, 15, 16, 17, 25]),
+    ("hybit_layout_check", &[1, 11, 14, 15, 16, 17, 26]),
+    ("hybit_layout_total_dofs", &[1, 11, 14, 15, 16, 17, 26]),
+    ("hybit_layout_block_range", &[1, 11, 14, 15, 16, 17, 26]),
+    ("hybit_layout_locate", &[1, 11, 14, 15, 16, 17, 26]),
+    (
+        "hybit_layout_validate_square_matrix_size",
+        &[1, 11, 14, 15, 16, 17, 18, 26],
+    ),
+    ("hybit_layout_field_mask", &[1, 11, 14, 15, 16, 17, 25, 26]),
 ];
 
 impl Call {
@@ -120,11 +163,27 @@ impl Call {
             Call::MaskIntersects(..) => 20,
             Call::MaskIndices { .. } => 21,
             Call::MaskOrWord { .. } => 22,
+            Call::KindOf(..) => 23,
+            Call::LayoutNew { .. } => 24,
+            Call::Layout(_, question) => question.code(),
         }
     }
 
     pub fn function(&self) -> &'static str {
         FUNCTIONS[self.code() - 1].0
+    }
+}
+
+impl Question {
+    fn code(&self) -> usize {
+        match self {
+            Question::Check => 25,
+            Question::TotalDofs => 26,
+            Question::BlockRange(..) => 27,
+            Question::Locate(..) => 28,
+            Question::ValidateSquareMatrixSize { .. } => 29,
+            Question::FieldMask { .. } => 30,
+        }
     }
 }
 

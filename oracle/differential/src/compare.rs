@@ -1,5 +1,6 @@
 //! Comparing the port with what is expected, and counting.
 
+use std::ops::RangeInclusive;
 use std::panic::{AssertUnwindSafe, catch_unwind};
 use std::process::exit;
 
@@ -84,10 +85,13 @@ impl Tally {
         self.0.iter().flatten().sum()
     }
 
-    /// One line for each function.
+    /// One line for each function that was called.
     pub fn print(&self) {
         for ((function, numbers), counts) in FUNCTIONS.iter().zip(&self.0) {
             let total: u64 = counts.iter().sum();
+            if total == 0 {
+                continue;
+            }
             let refused: String = numbers
                 .iter()
                 .map(|&number| format!(", {number}: {}", counts[number as usize]))
@@ -99,12 +103,13 @@ impl Tally {
         }
     }
 
-    /// Ends the program if a function was never accepted, or never refused
-    /// with a number it can give: then the cases are too weak.
-    pub fn demand_every_number(&self) {
-        for ((function, numbers), counts) in FUNCTIONS.iter().zip(&self.0) {
+    /// Ends the program if one of the functions was never accepted, or never
+    /// refused with a number it can give: then the cases are too weak.
+    pub fn demand_every_number(&self, codes: RangeInclusive<usize>) {
+        for code in codes {
+            let (function, numbers) = FUNCTIONS[code - 1];
             for &number in numbers.iter().chain(&[0]) {
-                if counts[number as usize] == 0 {
+                if self.0[code - 1][number as usize] == 0 {
                     fail(&format!("{function}: no case with number {number}"));
                 }
             }

@@ -7,6 +7,8 @@
 //! shows what it does). Where one comes after the Rust's own checks, the Rust
 //! works on a copy, and the lent lists are written only at the very end.
 
+mod layout;
+
 use hybit_core::HybitError;
 use hybit_open as open;
 use hybit_original as original;
@@ -134,6 +136,10 @@ fn accepted(call: &mut Call) -> Result<Answer, Answer> {
             mask.words = copy.words;
             Ok(Answer::done())
         }
+
+        Call::KindOf(code) => Ok(Answer::told(layout::kind(*code)? as u64)),
+        Call::LayoutNew { blocks, out } => layout::new(blocks, out),
+        Call::Layout(layout, question) => layout::asked(layout, question),
     }
 }
 
@@ -229,6 +235,11 @@ fn refusal(error: HybitError) -> Answer {
         "matrix contains NaN or infinity" => 8,
         "DOF mask index out of range" => 13,
         "ABTM topology rank offset out of range" => 13,
+        "DOF layout requires at least one block" => 14,
+        "DOF block component count must be positive" => 15,
+        "duplicate DOF entity/field block" => 16,
+        "unknown DOF entity kind" => 17,
+        "square matrix dimensions disagree with DOF layout" => 18,
         _ => panic!("01 has no number for {text:?}"),
     })
 }

@@ -2,8 +2,10 @@
 //!
 //! ```text
 //! differential                       fixed cases and fixed seeds
+//! differential only GROUP            the same for one group of calls
 //! differential soak SECONDS [SEED]   random cases for so long
 //! differential record FOLDER         writes recorded answers
+//! differential record-layout FOLDER  writes those of the calls on layouts
 //! differential self-test             wrong expectations must be reported
 //! ```
 
@@ -13,6 +15,8 @@ mod compare;
 mod csr32;
 mod examples;
 mod expected;
+mod groups;
+mod layout;
 mod mask;
 mod parts;
 mod port;
@@ -23,25 +27,29 @@ mod word;
 
 use std::env;
 use std::path::Path;
+use std::slice;
 use std::time::{Duration, Instant, SystemTime, UNIX_EPOCH};
 
 use crate::compare::{Tally, fail};
+use crate::groups::{GROUPS, Group, holds};
+use crate::record::Format;
 use crate::rng::Rng;
+
+const USAGE: &str = "usage: differential \
+    [only GROUP | soak SECONDS [SEED] | record FOLDER | record-layout FOLDER | self-test]";
 
 fn main() {
     let arguments: Vec<String> = env::args().skip(1).collect();
     let arguments: Vec<&str> = arguments.iter().map(String::as_str).collect();
     match arguments.as_slice() {
-        [] => whole_run(),
+        [] => whole_run(&GROUPS),
+        ["only", name] => whole_run(slice::from_ref(group(name))),
         ["soak", seconds] => soak(number(seconds), seed_from_clock()),
         ["soak", seconds, seed] => soak(number(seconds), number(seed)),
-        ["record", folder] => {
-            if let Err(error) = record::write(Path::new(folder)) {
-                fail(&format!("{folder}: {error}"));
-            }
-        }
-        ["self-test"] => self_test::run(),
-        _ => fail("usage: differential [soak SECONDS [SEED] | record FOLDER | self-test]"),
+        ["record", folder] => record(&record::FOUNDATIONS, folder),
+        ["record-layout", folder] => record(&record::LAYOUT, folder),
+        ["self-test"] => self_test::run(&record::all_calls()),
+        _ => fail(USAGE),
     }
 }
 
@@ -52,22 +60,40 @@ fn number(text: &str) -> u64 {
     }
 }
 
-fn whole_run() {
+fn group(name: &str) -> &'static Group {
+    match GROUPS.iter().find(|group| group.name == name) {
+        Some(group) => group,
+        None => fail(&format!("{name}: no such group of calls")),
+    }
+}
+
+fn record(format: &Format, folder: &str) {
+    if let Err(error) = record::write(format, Path::new(folder)) {
+        fail(&format!("{folder}: {error}"));
+    }
+}
+
+fn whole_run(groups: &[Group]) {
     let mut tally = Tally::new();
-    examples::run(&mut tally);
-    self_test::run();
-    let mut compare = |call| tally.compare(call);
-    record::calls().into_iter().for_each(&mut compare);
-    word::fixed(&mut compare);
-    csr32::fixed(&mut compare);
-    mask::fixed(&mut compare);
+    examples::run(groups, &mut tally);
+    let mut recorded = record::all_calls();
+    recorded.retain(|call| holds(groups, call));
+    self_test::run(&recorded);
+    for call in recorded {
+        tally.compare(call);
+    }
+    for group in groups {
+        (group.fixed)(&mut |call| tally.compare(call));
+    }
     for seed in 100..104 {
         let mut rng = Rng::new(seed);
         for _ in 0..500_000 {
-            random(&mut rng, &mut tally);
+            random_round(groups, &mut rng, &mut tally);
         }
     }
-    tally.demand_every_number();
+    for group in groups {
+        tally.demand_every_number(group.codes.clone());
+    }
     finish(&tally);
 }
 
@@ -78,18 +104,17 @@ fn soak(seconds: u64, seed: u64) {
     let mut tally = Tally::new();
     while start.elapsed() < Duration::from_secs(seconds) {
         for _ in 0..1_000 {
-            random(&mut rng, &mut tally);
+            random_round(&GROUPS, &mut rng, &mut tally);
         }
     }
     finish(&tally);
 }
 
-/// Some random calls; masks have the most functions.
-fn random(rng: &mut Rng, tally: &mut Tally) {
-    tally.compare(word::random(rng));
-    tally.compare(csr32::random(rng));
-    for _ in 0..4 {
-        tally.compare(mask::random(rng));
+fn random_round(groups: &[Group], rng: &mut Rng, tally: &mut Tally) {
+    for group in groups {
+        for _ in 0..group.share {
+            tally.compare((group.random)(rng));
+        }
     }
 }
 

@@ -1,7 +1,7 @@
 //! A call taken apart into named numbers and lists, in the order in which it
 //! is printed and recorded.
 
-use crate::call::{Call, Mask, Matrix, Word};
+use crate::call::{Blocks, Call, Layout, Mask, Matrix, Question, Word};
 
 pub struct Parts {
     pub numbers: Vec<(&'static str, u64)>,
@@ -57,6 +57,9 @@ pub fn parts(call: &Call) -> Parts {
             &[("word_index", *word_index), ("bits", *bits)],
             Some(0),
         ),
+        Call::KindOf(code) => new(&[("code", u64::from(*code))], vec![], None),
+        Call::LayoutNew { blocks, out } => of_layout(blocks, &[], &[], Some(out)),
+        Call::Layout(layout, question) => of_question(layout, question),
     }
 }
 
@@ -82,7 +85,6 @@ fn of_word(word: &Word, operand: Option<(&'static str, u64)>) -> Parts {
 }
 
 fn of_matrix(matrix: &Matrix) -> Parts {
-    let widened = |list: &[u32]| list.iter().map(|&number| u64::from(number)).collect();
     let bits = matrix.values.iter().map(|value| value.to_bits()).collect();
     new(
         &[
@@ -113,6 +115,46 @@ fn of_two(mask: &Mask, other: &Mask, written: Option<usize>) -> Parts {
         ],
         written,
     )
+}
+
+fn of_question(layout: &Layout, question: &Question) -> Parts {
+    let on = |numbers: &[(&'static str, u64)], out: Option<&Vec<u64>>| {
+        of_layout(&layout.blocks, &layout.offsets, numbers, out)
+    };
+    match question {
+        Question::Check | Question::TotalDofs => on(&[], None),
+        Question::BlockRange(index) => on(&[("index", *index)], None),
+        Question::Locate(dof) => on(&[("dof", *dof)], None),
+        Question::ValidateSquareMatrixSize { nrows, ncols } => {
+            on(&[("nrows", *nrows as u64), ("ncols", *ncols as u64)], None)
+        }
+        Question::FieldMask { field_id, out } => {
+            on(&[("field_id", u64::from(*field_id))], Some(out))
+        }
+    }
+}
+
+/// The written list is always the sixth, so a layout that is still to be built
+/// has an empty list of offsets here.
+fn of_layout(
+    blocks: &Blocks,
+    offsets: &[u64],
+    numbers: &[(&'static str, u64)],
+    out: Option<&Vec<u64>>,
+) -> Parts {
+    let mut lists = vec![
+        ("kinds", widened(&blocks.kinds)),
+        ("ids", blocks.ids.clone()),
+        ("fields", widened(&blocks.fields)),
+        ("components", widened(&blocks.components)),
+        ("offsets", offsets.to_vec()),
+    ];
+    lists.extend(out.map(|out| ("out", out.clone())));
+    new(numbers, lists, out.map(|_| 5))
+}
+
+fn widened<T: Copy + Into<u64>>(list: &[T]) -> Vec<u64> {
+    list.iter().map(|&number| number.into()).collect()
 }
 
 impl Parts {

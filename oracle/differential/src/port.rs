@@ -1,95 +1,9 @@
-//! The port: its exported functions, and the one safe way to call them.
+//! The one safe way to call the port.
+
+use hybit_port::*;
 
 use crate::answer::Answer;
-use crate::call::Call;
-
-unsafe extern "C" {
-    fn hybit_word_bits() -> u64;
-    fn hybit_word_word_index(word_index: u32, mask: u64) -> u32;
-    fn hybit_word_base_col(word_index: u32, mask: u64) -> u64;
-    fn hybit_word_mask(word_index: u32, mask: u64) -> u64;
-    fn hybit_word_popcount(word_index: u32, mask: u64) -> u64;
-    fn hybit_word_contains_offset(word_index: u32, mask: u64, offset: u64) -> bool;
-    fn hybit_word_rank(word_index: u32, mask: u64, offset: u64) -> Answer;
-    fn hybit_word_select(word_index: u32, mask: u64, ordinal: u64) -> Answer;
-
-    fn hybit_csr32_validate(
-        nrows: usize,
-        ncols: usize,
-        row_ptr: *const u32,
-        row_ptr_len: usize,
-        col_idx: *const u32,
-        col_idx_len: usize,
-        values: *const f64,
-        values_len: usize,
-    ) -> Answer;
-
-    fn hybit_mask_check(len: usize, words: *const u64, words_len: usize) -> Answer;
-    fn hybit_mask_new(len: usize, out: *mut u64, out_len: usize) -> Answer;
-    fn hybit_mask_from_indices(
-        len: usize,
-        indices: *const u64,
-        indices_len: usize,
-        out: *mut u64,
-        out_len: usize,
-    ) -> Answer;
-    fn hybit_mask_is_empty(len: usize, words: *const u64, words_len: usize) -> Answer;
-    fn hybit_mask_count_ones(len: usize, words: *const u64, words_len: usize) -> Answer;
-    fn hybit_mask_set(
-        len: usize,
-        words: *mut u64,
-        words_len: usize,
-        index: u64,
-        value: bool,
-    ) -> Answer;
-    fn hybit_mask_contains(len: usize, words: *const u64, words_len: usize, index: u64) -> Answer;
-    fn hybit_mask_union_assign(
-        len: usize,
-        words: *mut u64,
-        words_len: usize,
-        other_len: usize,
-        other: *const u64,
-        other_words: usize,
-    ) -> Answer;
-    fn hybit_mask_intersect_assign(
-        len: usize,
-        words: *mut u64,
-        words_len: usize,
-        other_len: usize,
-        other: *const u64,
-        other_words: usize,
-    ) -> Answer;
-    fn hybit_mask_and_not_assign(
-        len: usize,
-        words: *mut u64,
-        words_len: usize,
-        other_len: usize,
-        other: *const u64,
-        other_words: usize,
-    ) -> Answer;
-    fn hybit_mask_intersects(
-        len: usize,
-        words: *const u64,
-        words_len: usize,
-        other_len: usize,
-        other: *const u64,
-        other_words: usize,
-    ) -> Answer;
-    fn hybit_mask_indices(
-        len: usize,
-        words: *const u64,
-        words_len: usize,
-        out: *mut u64,
-        out_len: usize,
-    ) -> Answer;
-    fn hybit_mask_or_word(
-        len: usize,
-        words: *mut u64,
-        words_len: usize,
-        word_index: u64,
-        bits: u64,
-    ) -> Answer;
-}
+use crate::call::{Call, Layout, Question};
 
 /// The port's answer; the lists in `call` are left as the port left them.
 ///
@@ -114,9 +28,11 @@ pub fn answer(call: &mut Call) -> Answer {
             Call::WordContainsOffset(word, offset) => Answer::told(u64::from(
                 hybit_word_contains_offset(word.word_index, word.mask, *offset),
             )),
-            Call::WordRank(word, offset) => hybit_word_rank(word.word_index, word.mask, *offset),
+            Call::WordRank(word, offset) => {
+                hybit_word_rank(word.word_index, word.mask, *offset).into()
+            }
             Call::WordSelect(word, ordinal) => {
-                hybit_word_select(word.word_index, word.mask, *ordinal)
+                hybit_word_select(word.word_index, word.mask, *ordinal).into()
             }
             Call::Csr32Validate(matrix) => hybit_csr32_validate(
                 matrix.nrows,
@@ -127,23 +43,25 @@ pub fn answer(call: &mut Call) -> Answer {
                 matrix.col_idx.len(),
                 matrix.values.as_mut_ptr(),
                 matrix.values.len(),
-            ),
+            )
+            .into(),
             Call::MaskCheck(mask) => {
-                hybit_mask_check(mask.len, mask.words.as_mut_ptr(), mask.words.len())
+                hybit_mask_check(mask.len, mask.words.as_mut_ptr(), mask.words.len()).into()
             }
-            Call::MaskNew { len, out } => hybit_mask_new(*len, out.as_mut_ptr(), out.len()),
+            Call::MaskNew { len, out } => hybit_mask_new(*len, out.as_mut_ptr(), out.len()).into(),
             Call::MaskFromIndices { len, indices, out } => hybit_mask_from_indices(
                 *len,
                 indices.as_mut_ptr(),
                 indices.len(),
                 out.as_mut_ptr(),
                 out.len(),
-            ),
+            )
+            .into(),
             Call::MaskIsEmpty(mask) => {
-                hybit_mask_is_empty(mask.len, mask.words.as_mut_ptr(), mask.words.len())
+                hybit_mask_is_empty(mask.len, mask.words.as_mut_ptr(), mask.words.len()).into()
             }
             Call::MaskCountOnes(mask) => {
-                hybit_mask_count_ones(mask.len, mask.words.as_mut_ptr(), mask.words.len())
+                hybit_mask_count_ones(mask.len, mask.words.as_mut_ptr(), mask.words.len()).into()
             }
             Call::MaskSet { mask, index, value } => hybit_mask_set(
                 mask.len,
@@ -151,9 +69,11 @@ pub fn answer(call: &mut Call) -> Answer {
                 mask.words.len(),
                 *index,
                 *value,
-            ),
+            )
+            .into(),
             Call::MaskContains { mask, index } => {
                 hybit_mask_contains(mask.len, mask.words.as_mut_ptr(), mask.words.len(), *index)
+                    .into()
             }
             Call::MaskUnionAssign(mask, other) => hybit_mask_union_assign(
                 mask.len,
@@ -162,7 +82,8 @@ pub fn answer(call: &mut Call) -> Answer {
                 other.len,
                 other.words.as_mut_ptr(),
                 other.words.len(),
-            ),
+            )
+            .into(),
             Call::MaskIntersectAssign(mask, other) => hybit_mask_intersect_assign(
                 mask.len,
                 mask.words.as_mut_ptr(),
@@ -170,7 +91,8 @@ pub fn answer(call: &mut Call) -> Answer {
                 other.len,
                 other.words.as_mut_ptr(),
                 other.words.len(),
-            ),
+            )
+            .into(),
             Call::MaskAndNotAssign(mask, other) => hybit_mask_and_not_assign(
                 mask.len,
                 mask.words.as_mut_ptr(),
@@ -178,7 +100,8 @@ pub fn answer(call: &mut Call) -> Answer {
                 other.len,
                 other.words.as_mut_ptr(),
                 other.words.len(),
-            ),
+            )
+            .into(),
             Call::MaskIntersects(mask, other) => hybit_mask_intersects(
                 mask.len,
                 mask.words.as_mut_ptr(),
@@ -186,14 +109,16 @@ pub fn answer(call: &mut Call) -> Answer {
                 other.len,
                 other.words.as_mut_ptr(),
                 other.words.len(),
-            ),
+            )
+            .into(),
             Call::MaskIndices { mask, out } => hybit_mask_indices(
                 mask.len,
                 mask.words.as_mut_ptr(),
                 mask.words.len(),
                 out.as_mut_ptr(),
                 out.len(),
-            ),
+            )
+            .into(),
             Call::MaskOrWord {
                 mask,
                 word_index,
@@ -204,6 +129,67 @@ pub fn answer(call: &mut Call) -> Answer {
                 mask.words.len(),
                 *word_index,
                 *bits,
+            )
+            .into(),
+            Call::KindOf(code) => hybit_kind_of(*code).into(),
+            Call::LayoutNew { blocks, out } => hybit_layout_new(
+                blocks.kinds.as_mut_ptr(),
+                blocks.kinds.len(),
+                blocks.ids.as_mut_ptr(),
+                blocks.ids.len(),
+                blocks.fields.as_mut_ptr(),
+                blocks.fields.len(),
+                blocks.components.as_mut_ptr(),
+                blocks.components.len(),
+                out.as_mut_ptr(),
+                out.len(),
+            )
+            .into(),
+            Call::Layout(layout, question) => on_layout(layout, question),
+        }
+    }
+}
+
+/// Lends the five lists of a layout, then what else the function takes.
+macro_rules! lend {
+    ($function:ident, $layout:expr $(, $more:expr)*) => {
+        $function(
+            $layout.blocks.kinds.as_mut_ptr(),
+            $layout.blocks.kinds.len(),
+            $layout.blocks.ids.as_mut_ptr(),
+            $layout.blocks.ids.len(),
+            $layout.blocks.fields.as_mut_ptr(),
+            $layout.blocks.fields.len(),
+            $layout.blocks.components.as_mut_ptr(),
+            $layout.blocks.components.len(),
+            $layout.offsets.as_mut_ptr(),
+            $layout.offsets.len()
+            $(, $more)*
+        )
+        .into()
+    };
+}
+
+fn on_layout(layout: &mut Layout, question: &mut Question) -> Answer {
+    // SAFETY: as above.
+    unsafe {
+        match question {
+            Question::Check => lend!(hybit_layout_check, layout),
+            Question::TotalDofs => lend!(hybit_layout_total_dofs, layout),
+            Question::BlockRange(index) => lend!(hybit_layout_block_range, layout, *index),
+            Question::Locate(dof) => lend!(hybit_layout_locate, layout, *dof),
+            Question::ValidateSquareMatrixSize { nrows, ncols } => lend!(
+                hybit_layout_validate_square_matrix_size,
+                layout,
+                *nrows,
+                *ncols
+            ),
+            Question::FieldMask { field_id, out } => lend!(
+                hybit_layout_field_mask,
+                layout,
+                *field_id,
+                out.as_mut_ptr(),
+                out.len()
             ),
         }
     }

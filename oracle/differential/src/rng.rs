@@ -29,6 +29,12 @@ impl Rng {
         list[self.below(list.len())]
     }
 
+    pub fn shuffle<T>(&mut self, list: &mut [T]) {
+        for place in (1..list.len()).rev() {
+            list.swap(place, self.below(place + 1));
+        }
+    }
+
     /// A word with few, half or most of its bits set, or an edge.
     pub fn word(&mut self) -> u64 {
         match self.below(8) {
@@ -43,5 +49,16 @@ impl Rng {
 
     pub fn words(&mut self, count: usize) -> Vec<u64> {
         (0..count).map(|_| self.word()).collect()
+    }
+
+    /// An output list with some content, mostly long enough.
+    pub fn room(&mut self, needed: usize) -> Vec<u64> {
+        let room = match self.below(6) {
+            0 => needed.saturating_sub(1),
+            1 => self.below(needed + 1),
+            2 => needed + 1 + self.below(4),
+            _ => needed,
+        };
+        self.words(room)
     }
 }

@@ -1,22 +1,21 @@
 //! A test of the comparing itself: a wrong expectation must be reported.
 
-use crate::call::Call;
+use crate::call::{Blocks, Call, Question};
 use crate::compare::{Outcome, difference, expected, fail, got};
-use crate::record;
 
 /// Takes the recorded calls, which cover every function and every number, and
 /// spoils each part of each expected answer and each element of each list.
-pub fn run() {
+pub fn run(recorded: &[Call]) {
     let mut wrong = 0;
-    for call in record::calls() {
-        let right = expected(&call);
-        let got = got(&call);
-        if let Some(report) = difference(&call, &right, &got) {
+    for call in recorded {
+        let right = expected(call);
+        let got = got(call);
+        if let Some(report) = difference(call, &right, &got) {
             fail(&report);
         }
         for spoiled in spoiled(&right) {
             wrong += 1;
-            if difference(&call, &spoiled, &got).is_none() {
+            if difference(call, &spoiled, &got).is_none() {
                 fail(&format!(
                     "self-test: a wrong expectation of {} was not reported",
                     call.function()
@@ -28,12 +27,13 @@ pub fn run() {
 }
 
 fn spoiled(right: &Outcome) -> Vec<Outcome> {
-    let mut all = vec![right.clone(); 5];
+    let mut all = vec![right.clone(); 6];
     all[0].answer.number += 1;
     all[1].answer.present ^= true;
     all[2].answer.expected += 1;
     all[3].answer.actual += 1;
-    all[4].answer.value = all[4].answer.value.wrapping_add(1);
+    all[4].answer.first = all[4].answer.first.wrapping_add(1);
+    all[5].answer.second = all[5].answer.second.wrapping_add(1);
     for list in 0..lists(&mut right.after.clone()).len() {
         for place in 0..lists(&mut right.after.clone())[list].length() {
             let mut wrong = right.clone();
@@ -48,6 +48,15 @@ fn spoiled(right: &Outcome) -> Vec<Outcome> {
 trait Spoil {
     fn length(&self) -> usize;
     fn spoil(&mut self, place: usize);
+}
+
+impl Spoil for Vec<u8> {
+    fn length(&self) -> usize {
+        self.len()
+    }
+    fn spoil(&mut self, place: usize) {
+        self[place] ^= 1;
+    }
 }
 
 impl Spoil for Vec<u32> {
@@ -104,5 +113,28 @@ fn lists(call: &mut Call) -> Vec<&mut dyn Spoil> {
         | Call::MaskAndNotAssign(mask, other)
         | Call::MaskIntersects(mask, other) => vec![&mut mask.words, &mut other.words],
         Call::MaskIndices { mask, out } => vec![&mut mask.words, out],
+        Call::KindOf(_) => vec![],
+        Call::LayoutNew { blocks, out } => {
+            let mut lists = lists_of(blocks);
+            lists.push(out);
+            lists
+        }
+        Call::Layout(layout, question) => {
+            let mut lists = lists_of(&mut layout.blocks);
+            lists.push(&mut layout.offsets);
+            if let Question::FieldMask { out, .. } = question {
+                lists.push(out);
+            }
+            lists
+        }
     }
+}
+
+fn lists_of(blocks: &mut Blocks) -> Vec<&mut dyn Spoil> {
+    vec![
+        &mut blocks.kinds,
+        &mut blocks.ids,
+        &mut blocks.fields,
+        &mut blocks.components,
+    ]
 }

@@ -13,12 +13,12 @@ pub fn random(rng: &mut Rng) -> Call {
         0 => Call::MaskCheck(mask),
         1 => Call::MaskNew {
             len: mask.len,
-            out: random_room(rng, words_needed(len)),
+            out: rng.room(words_needed(len)),
         },
         2 => Call::MaskFromIndices {
             len: mask.len,
             indices: random_indices(rng, len),
-            out: random_room(rng, words_needed(len)),
+            out: rng.room(words_needed(len)),
         },
         3 => Call::MaskIsEmpty(mask),
         4 => Call::MaskCountOnes(mask),
@@ -36,7 +36,7 @@ pub fn random(rng: &mut Rng) -> Call {
         9 => Call::MaskAndNotAssign(mask, random_other(rng, len)),
         10 => Call::MaskIntersects(mask, random_other(rng, len)),
         11 => Call::MaskIndices {
-            out: random_room(rng, members(&mask)),
+            out: rng.room(members(&mask)),
             mask,
         },
         _ => Call::MaskOrWord {
@@ -114,15 +114,4 @@ fn random_indices(rng: &mut Rng, len: usize) -> Vec<u64> {
         indices.insert(rng.below(count + 1), random_index(rng, len));
     }
     indices
-}
-
-/// An output list with some content, mostly long enough.
-fn random_room(rng: &mut Rng, needed: usize) -> Vec<u64> {
-    let room = match rng.below(6) {
-        0 => needed.saturating_sub(1),
-        1 => rng.below(needed + 1),
-        2 => needed + 1 + rng.below(4),
-        _ => needed,
-    };
-    rng.words(room)
 }

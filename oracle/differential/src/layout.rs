@@ -1,0 +1,82 @@
+//! Cases for layouts.
+
+mod fixed;
+mod offsets;
+mod orders;
+mod questions;
+mod random;
+mod small;
+
+pub use random::random;
+
+use crate::call::{Blocks, Call, Layout, Question};
+
+/// The codes of all kinds.
+const KINDS: [u8; 7] = [1, 2, 3, 4, 5, 6, 255];
+
+#[derive(Clone, Copy)]
+struct Block {
+    kind: u8,
+    id: u64,
+    field: u32,
+    components: u32,
+}
+
+pub fn fixed(run: &mut dyn FnMut(Call)) {
+    small::run(run);
+    fixed::run(run);
+}
+
+/// A few cases at the edges, for the recorded answers.
+pub fn edges(offer: &mut dyn FnMut(Call)) {
+    for code in KINDS.map(u32::from).into_iter().chain([0, 7, 254, 256]) {
+        offer(Call::KindOf(code));
+    }
+    for components in [&[1][..], &[2, 1], &[64, 1], &[63, 2], &[1, 64, 65], &[130]] {
+        let layout = built(&numbered(components));
+        questions::one_each(&layout, offer);
+        for dof in [0, 1, 62, 63, 64, 65, 129, 130, u64::MAX] {
+            offer(Call::Layout(layout.clone(), Question::Locate(dof)));
+        }
+        for offsets in offsets::damaged(&layout.offsets) {
+            let blocks = layout.blocks.clone();
+            questions::one_each(&Layout { blocks, offsets }, offer);
+        }
+    }
+}
+
+fn blocks(list: &[Block]) -> Blocks {
+    Blocks {
+        kinds: list.iter().map(|block| block.kind).collect(),
+        ids: list.iter().map(|block| block.id).collect(),
+        fields: list.iter().map(|block| block.field).collect(),
+        components: list.iter().map(|block| block.components).collect(),
+    }
+}
+
+/// The blocks with their running totals, whether they are right or not.
+fn built(list: &[Block]) -> Layout {
+    let mut total = 0;
+    let mut offsets = vec![0];
+    for block in list {
+        total += u64::from(block.components);
+        offsets.push(total);
+    }
+    Layout {
+        blocks: blocks(list),
+        offsets,
+    }
+}
+
+/// Blocks of kind 1 with ids by position, of fields 0, 1, 0, 1 and so on.
+fn numbered(components: &[u32]) -> Vec<Block> {
+    (0..)
+        .zip(components)
+        .map(|(id, &components)| Block {
+            kind: 1,
+            id,
+            field: id as u32 % 2,
+            components,
+        })
+        .collect()
+}
