@@ -29,9 +29,10 @@ pub fn fixed(run: &mut dyn FnMut(Call)) {
 
 /// A few cases at the edges, for the recorded answers.
 pub fn edges(offer: &mut dyn FnMut(Call)) {
-    for code in KINDS.map(u32::from).into_iter().chain([0, 7, 254, 256]) {
+    for code in KINDS.map(u32::from).into_iter().chain([0, 7, 254, 257]) {
         offer(Call::KindOf(code));
     }
+    small::faults_of_second(offer);
     for components in [&[1][..], &[2, 1], &[64, 1], &[63, 2], &[1, 64, 65], &[130]] {
         let layout = built(&numbered(components));
         questions::one_each(&layout, offer);

@@ -109,8 +109,8 @@ fn word_borders(run: &mut dyn FnMut(Call)) {
     }
 }
 
-/// Two blocks whose keys differ in one bit of the id or of the field, and two
-/// of each two kinds.
+/// Two blocks whose keys differ in one bit of the id or of the field, in the
+/// kind, or in two of these in a way that packing them together would hide.
 fn key_bits(run: &mut dyn FnMut(Call)) {
     let first = Block {
         kind: 3,
@@ -124,19 +124,37 @@ fn key_bits(run: &mut dyn FnMut(Call)) {
         seconds.push(Block { id, ..first });
         let field = first.field ^ 1 << (bit % 32);
         seconds.push(Block { field, ..first });
+        seconds.push(Block { field, id, ..first });
+        seconds.extend(KINDS.map(|kind| {
+            let id = first.id ^ u64::from(kind ^ first.kind) << bit;
+            Block { kind, id, ..first }
+        }));
+        seconds.extend(KINDS.map(|kind| {
+            let field = first.field ^ u32::from(kind ^ first.kind) << (bit % 32);
+            Block {
+                kind,
+                field,
+                ..first
+            }
+        }));
     }
     for second in seconds {
-        let between = Block { kind: 4, ..first };
+        let between = Block {
+            kind: 4,
+            id: !first.id,
+            ..first
+        };
         questions::one_each(&built(&[first, second]), run);
         questions::one_each(&built(&[first, between, second]), run);
     }
-    for kind in KINDS {
-        for other in KINDS {
-            let second = Block {
-                kind: other,
-                ..first
-            };
-            questions::one_each(&built(&[Block { kind, ..first }, second]), run);
+    two_kinds(first, run);
+}
+
+fn two_kinds(block: Block, run: &mut dyn FnMut(Call)) {
+    for first in KINDS {
+        for second in KINDS {
+            let list = [first, second].map(|kind| Block { kind, ..block });
+            questions::one_each(&built(&list), run);
         }
     }
 }

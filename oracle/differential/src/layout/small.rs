@@ -96,6 +96,13 @@ fn all_faults(run: &mut dyn FnMut(Call)) {
     }
 }
 
+/// The same faults in the second of 2 blocks.
+pub fn faults_of_second(run: &mut dyn FnMut(Call)) {
+    for faults in 1..1 << 4 {
+        questions::one_each(&built(&[faulty(0, 0), faulty(1, faults)]), run);
+    }
+}
+
 fn faulty(at: u64, faults: u32) -> Block {
     let fault = |bit: u32| faults >> bit & 1 == 1;
     Block {

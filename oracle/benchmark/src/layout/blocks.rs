@@ -1,0 +1,38 @@
+//! The blocks that are measured.
+
+use hybit_original::{DofBlock, DofEntityKind};
+
+/// All fields of the first entity, then all of the second, and so on.
+pub fn entity_major(count: usize, fields: usize, components: u32) -> Vec<DofBlock> {
+    (0..count)
+        .map(|place| block(place / fields, place % fields, components))
+        .collect()
+}
+
+/// All entities of the first field, then all of the second, and so on; blocks
+/// of one component.
+pub fn field_major(entities: usize, fields: usize) -> Vec<DofBlock> {
+    (0..entities * fields)
+        .map(|place| block(place % entities, place / entities, 1))
+        .collect()
+}
+
+/// Always the same order (a multiplicative generator chooses the swaps).
+pub fn shuffle(blocks: &mut [DofBlock]) {
+    let mut state = 1_u64;
+    for place in (1..blocks.len()).rev() {
+        state = state
+            .wrapping_mul(6_364_136_223_846_793_005)
+            .wrapping_add(1);
+        blocks.swap(place, (state >> 33) as usize % (place + 1));
+    }
+}
+
+fn block(entity: usize, field: usize, components: u32) -> DofBlock {
+    DofBlock {
+        entity_kind: DofEntityKind::Node,
+        entity_id: entity as u64,
+        field_id: field as u32,
+        components,
+    }
+}

@@ -1,0 +1,118 @@
+//! Measuring two sides of a row in turn.
+
+use std::hint::black_box;
+use std::time::{Duration, Instant};
+
+/// A row is measured for about so long, and at most so often; a slow one for
+/// longer, to have a few samples.
+const ROW_TIME: Duration = Duration::from_millis(1_500);
+const MOST: usize = 51;
+const SLOW_ROW_TIME: Duration = Duration::from_secs(5);
+const FEW: usize = 3;
+
+/// A sample of several calls takes at least so long, so that the clock's own
+/// time and its steps do not count.
+const SAMPLE_TIME: Duration = Duration::from_millis(1);
+
+/// Takes one sample: the time of one call in microseconds.
+pub type Sample<'a> = Box<dyn FnMut() -> f64 + 'a>;
+
+/// One call a sample. What it consumes is made before the clock starts, and
+/// what it returns is dropped after the clock has stopped.
+pub fn single<'a, I, O>(
+    mut prepare: impl FnMut() -> I + 'a,
+    mut work: impl FnMut(I) -> O + 'a,
+) -> Sample<'a> {
+    Box::new(move || {
+        let input = black_box(prepare());
+        let start = Instant::now();
+        let output = black_box(work(input));
+        let time = start.elapsed();
+        drop(output);
+        microseconds(time)
+    })
+}
+
+/// As many calls a sample as fill its time. Each gets its number, to choose
+/// another operand each time.
+pub fn repeated<'a, O>(mut work: impl FnMut(usize) -> O + 'a) -> Sample<'a> {
+    let mut calls = 1;
+    Box::new(move || {
+        loop {
+            let start = Instant::now();
+            for number in 0..calls {
+                black_box(work(black_box(number)));
+            }
+            let time = start.elapsed();
+            if time >= SAMPLE_TIME {
+                return microseconds(time) / calls as f64;
+            }
+            calls *= 2;
+        }
+    })
+}
+
+fn microseconds(time: Duration) -> f64 {
+    time.as_secs_f64() * 1e6
+}
+
+pub struct Table {
+    start: Instant,
+}
+
+impl Table {
+    pub fn new() -> Self {
+        println!("One call in microseconds, the median of several samples, port and Rust in turn.");
+        println!(
+            "On a built layout the port's time includes its check of the whole layout at each"
+        );
+        println!(
+            "call; the Rust checks a layout only once, in `new`. (-: the Rust has no such call.)"
+        );
+        println!();
+        println!(
+            "{:<28} {:<46} {:>12} {:>12} {:>12} {:>7}",
+            "call", "input", "port", "Rust", "ratio", "samples"
+        );
+        Self {
+            start: Instant::now(),
+        }
+    }
+
+    /// Measures and prints one row.
+    pub fn row(&mut self, call: &str, input: &str, mut port: Sample, mut rust: Option<Sample>) {
+        let start = Instant::now();
+        let mut port_times = vec![port()];
+        let mut rust_times: Vec<f64> = rust.iter_mut().map(|rust| rust()).collect();
+        while wants_more(port_times.len(), start.elapsed()) {
+            port_times.push(port());
+            rust_times.extend(rust.as_mut().map(|rust| rust()));
+        }
+        let samples = port_times.len();
+        let port = median(port_times);
+        let (rust, ratio) = if rust_times.is_empty() {
+            ("-".into(), "-".into())
+        } else {
+            let rust = median(rust_times);
+            (format!("{rust:.3}"), format!("{:.2}", port / rust))
+        };
+        println!("{call:<28} {input:<46} {port:>12.3} {rust:>12} {ratio:>12} {samples:>7}");
+    }
+
+    pub fn finish(&self) {
+        println!();
+        println!(
+            "benchmark: {:.1} s in all",
+            self.start.elapsed().as_secs_f64()
+        );
+    }
+}
+
+fn wants_more(samples: usize, time: Duration) -> bool {
+    samples < MOST && time < ROW_TIME || samples < FEW && time < SLOW_ROW_TIME
+}
+
+fn median(mut times: Vec<f64>) -> f64 {
+    times.sort_by(f64::total_cmp);
+    times[times.len() / 2]
+}
