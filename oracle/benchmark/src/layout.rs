@@ -26,14 +26,20 @@ pub fn rows(table: &mut Table) {
         "1,048,576 blocks of 1, two fields, field-major",
         &fields,
     );
+    let entities = entity_major(32_768, 2, 1);
+    new(
+        table,
+        "32768 blocks of 1, two fields, entity-major",
+        &entities,
+    );
     for count in [1_024, 2_048, 4_096, 8_192, 16_384, 32_768] {
         let mut blocks = entity_major(count, 1, 1);
         shuffle(&mut blocks);
         new(table, &format!("{count} blocks of 1, shuffled"), &blocks);
     }
     on_layout(table, "1,048,576 blocks of 1, one field", &rising);
-    let threes = entity_major(349_525, 2, 3);
-    on_layout(table, "349,525 blocks of 3, two fields", &threes);
+    let threes = entity_major(349_525, 1, 3);
+    on_layout(table, "349,525 blocks of 3, one field", &threes);
 }
 
 fn new(table: &mut Table, input: &str, blocks: &[DofBlock]) {

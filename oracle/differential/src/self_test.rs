@@ -1,6 +1,6 @@
 //! A test of the comparing itself: a wrong expectation must be reported.
 
-use crate::call::{Blocks, Call, Question};
+use crate::call::{Blocks, Call, Layout, Question};
 use crate::compare::{Outcome, difference, expected, fail, got};
 
 /// Takes the recorded calls, which cover every function and every number, and
@@ -114,27 +114,23 @@ fn lists(call: &mut Call) -> Vec<&mut dyn Spoil> {
         | Call::MaskIntersects(mask, other) => vec![&mut mask.words, &mut other.words],
         Call::MaskIndices { mask, out } => vec![&mut mask.words, out],
         Call::KindOf(_) => vec![],
-        Call::LayoutNew { blocks, out } => {
-            let mut lists = lists_of(blocks);
-            lists.push(out);
-            lists
+        Call::LayoutNew { blocks, out } => lists_of(blocks, vec![out]),
+        Call::Layout(Layout { blocks, offsets }, Question::FieldMask { out, .. }) => {
+            lists_of(blocks, vec![offsets, out])
         }
-        Call::Layout(layout, question) => {
-            let mut lists = lists_of(&mut layout.blocks);
-            lists.push(&mut layout.offsets);
-            if let Question::FieldMask { out, .. } = question {
-                lists.push(out);
-            }
-            lists
-        }
+        Call::Layout(Layout { blocks, offsets }, _) => lists_of(blocks, vec![offsets]),
     }
 }
 
-fn lists_of(blocks: &mut Blocks) -> Vec<&mut dyn Spoil> {
-    vec![
+fn lists_of<'a>(blocks: &'a mut Blocks, others: Vec<&'a mut Vec<u64>>) -> Vec<&'a mut dyn Spoil> {
+    let mut lists: Vec<&mut dyn Spoil> = vec![
         &mut blocks.kinds,
         &mut blocks.ids,
         &mut blocks.fields,
         &mut blocks.components,
-    ]
+    ];
+    for other in others {
+        lists.push(other);
+    }
+    lists
 }

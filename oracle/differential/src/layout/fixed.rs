@@ -48,6 +48,7 @@ fn kinds(run: &mut dyn FnMut(Call)) {
 fn limits(rng: &mut Rng, run: &mut dyn FnMut(Call)) {
     let mut all: Vec<Vec<u32>> = vec![
         vec![LIMIT],
+        vec![LIMIT + 1],
         vec![LIMIT - 1],
         vec![LIMIT - 1, 1],
         vec![1, LIMIT - 1],
@@ -241,9 +242,12 @@ fn shuffled(rng: &mut Rng, run: &mut dyn FnMut(Call)) {
 }
 
 /// As many blocks as there can be, one more, and a twin of the first as the
-/// last.
+/// last; ids rise in one field.
 fn largest(run: &mut dyn FnMut(Call)) {
     let mut list = numbered(&vec![1; SIDE_LIMIT + 1]);
+    for block in &mut list {
+        block.field = 0;
+    }
     questions::one(&built(&list), 0, run);
     list.pop();
     questions::one_each(&built(&list), run);
