@@ -14,7 +14,8 @@ use port::Lists;
 /// The most blocks that document 01 allows, since each has a node at least.
 const MOST_BLOCKS: usize = 1_048_576;
 
-/// So many different nodes and blocks are asked for.
+/// So many different nodes and blocks are asked for in turn; a slow side gets
+/// only as far as its samples go.
 const OPERANDS: usize = 1_000;
 
 pub fn rows(table: &mut Table) {

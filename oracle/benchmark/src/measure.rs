@@ -33,15 +33,17 @@ pub fn single<'a, I, O>(
     })
 }
 
-/// As many calls a sample as fill its time. Each gets its number, to choose
-/// another operand each time.
+/// As many calls a sample as fill its time. Each gets its number, counted
+/// through all samples, to choose another operand each time.
 pub fn repeated<'a, O>(mut work: impl FnMut(usize) -> O + 'a) -> Sample<'a> {
     let mut calls = 1;
+    let mut number = 0;
     Box::new(move || {
         loop {
             let start = Instant::now();
-            for number in 0..calls {
+            for _ in 0..calls {
                 black_box(work(black_box(number)));
+                number += 1;
             }
             let time = start.elapsed();
             if time >= SAMPLE_TIME {
