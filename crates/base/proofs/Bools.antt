@@ -1,10 +1,10 @@
 -- The two truth values, and decisions. Assumes nothing.
-use mathlib.Core.Path.{_≡_, refl, sym, subst}
+use mathlib.Core.Path.{_≡_, refl, sym, ap, _∙_, subst}
 use mathlib.Core.Logic.{_⊎_, inl, inr}
-use mathlib.Core.Bool.{Bool, true, false, _&&_, _||_}
+use mathlib.Core.Bool.{Bool, true, false, not, _&&_, _||_}
 use Prim.Native.Nat.{ℕ, _≤_, _<_}
-use borrow.Author.Tests.{ltb-true, ltb-false, eqb-true, eqb-false}
-use lib.Dec.{T, ltb, eqb}
+use borrow.Author.Tests.{lt-ltb, le-ltb, le-leb, lt-leb, ltb-true, ltb-false, eqb-true, eqb-false}
+use lib.Dec.{T, leb, ltb, eqb}
 
 pub bool-ext : (a b : Bool) → (T a → T b) → (T b → T a) → a ≡ b
 bool-ext true true f g = refl
@@ -75,6 +75,14 @@ lt-or-le a b = go (ltb a b) refl
     go : (t : Bool) → ltb a b ≡ t → (a < b) ⊎ (b ≤ a)
     go true e = inl (ltb-true a b e)
     go false e = inr (ltb-false a b e)
+
+-- at or past, and not below
+pub not-below : (i n : ℕ) → not (ltb i n) ≡ leb n i
+not-below i n = go (lt-or-le i n)
+  where
+    go : (i < n) ⊎ (n ≤ i) → not (ltb i n) ≡ leb n i
+    go (inl h) = ap not (lt-ltb i n h) ∙ sym (lt-leb n i h)
+    go (inr h) = ap not (le-ltb i n h) ∙ sym (le-leb n i h)
 
 pub eq-or-ne : (a b : ℕ) → (a ≡ b) ⊎ (a ≡ b → ⊥)
 eq-or-ne a b = go (eqb a b) refl

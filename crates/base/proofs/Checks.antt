@@ -2,14 +2,17 @@
 -- Assumes nothing.
 use mathlib.Core.Path.{_≡_, refl, sym, ap, _∙_}
 use mathlib.Core.Bool.{Bool, true, false, not, cond}
-use Prim.Native.Nat.{ℕ}
+use Prim.Native.Nat.{ℕ, zero, suc, _+_, _<_}
+use native.Mathlib.Nat.{not-suc-le-zero}
+use native.Mathlib.Numerals.{add-one}
+use native.Mathlib.Decide.{ℕ-discrete}
 use native.Mathlib.Omega.{arith}
 use lib.Dec.{eqb}
 use borrow.Author.Tests.{not-true, not-false, lt-ltb, le-ltb, le-leb, lt-leb, eq-eqb, ne-eqb, eqb-true}
 use Rattle.base.specs.declared.Refusal.{Refusal}
 use Rattle.base.specs.declared.Checked.{Checked}
 use Rattle.base.specs.declared.Checked.the-variants.{Accepted, Refused}
-use Rattle.base.specs.Checks.{plain, wrongLength, must, mustBe, _then_, after, leaves}
+use Rattle.base.specs.Checks.{plain, wrongLength, must, mustBe, _then_, checksBelow, after, leaves}
 
 -- ---- a return: the answer r is what the chain says
 
@@ -88,6 +91,36 @@ pub both-passed : (g next : Checked) → (g then next) ≡ Accepted → (g ≡ A
 unfolding _then_
 both-passed Accepted next e = (refl, e)
 both-passed (Refused r) next e = absurd (refused-not-accepted r e)
+
+-- ---- checks one after the other
+
+pub checks-none : (check : ℕ → Checked) → checksBelow 0 check ≡ Accepted
+unfolding checksBelow
+checks-none check = refl
+
+pub checks-next : (k : ℕ) (check : ℕ → Checked) → checksBelow k check ≡ Accepted → check k ≡ Accepted → checksBelow (k + 1) check ≡ Accepted
+unfolding checksBelow _then_
+checks-next k check e h = ap (λ (n : ℕ). checksBelow n check) (add-one k) ∙ ap (λ (x : Checked). x then check k) e ∙ h
+
+-- those before k pass and k refuses
+pub checks-stop : (n k : ℕ) (check : ℕ → Checked) (r : Refusal) → k < n → checksBelow k check ≡ Accepted → check k ≡ Refused r → checksBelow n check ≡ Refused r
+unfolding checksBelow _then_
+checks-stop zero k check r l e h = absurd (not-suc-le-zero l)
+checks-stop (suc n) k check r l e h = go (ℕ-discrete k n) (λ b. checks-stop n k check r b e h)
+  where
+    go : Dec (k ≡ n) → (k < n → checksBelow n check ≡ Refused r) → (checksBelow n check then check n) ≡ Refused r
+    go (yes d) ih =
+        ap (λ (x : Checked). x then check n) (ap (λ (j : ℕ). checksBelow j check) (sym d) ∙ e) ∙ ap check (sym d) ∙ h
+    go (no d) ih = ap (λ (x : Checked). x then check n) (ih (omega arith))
+
+pub checks-passed : (n : ℕ) (check : ℕ → Checked) → checksBelow n check ≡ Accepted → (k : ℕ) → k < n → check k ≡ Accepted
+unfolding checksBelow
+checks-passed zero check e k l = absurd (not-suc-le-zero l)
+checks-passed (suc n) check e k l = go (ℕ-discrete k n) (checks-passed n check (both-passed _ _ e .0) k)
+  where
+    go : Dec (k ≡ n) → (k < n → check k ≡ Accepted) → check k ≡ Accepted
+    go (yes d) ih = ap check d ∙ both-passed _ _ e .1
+    go (no d) ih = ih (omega arith)
 
 -- ---- the ways out of `after`: the answer, or the refusal handed on
 

@@ -7,12 +7,12 @@ use Prim.Native.Nat.{ℕ, zero, suc, _+_, _-_, _≤_, _<_}
 use native.Mathlib.Nat.{le-of-suc-le-suc, not-suc-le-zero, le-of-lt}
 use native.Mathlib.Numerals.{add-one}
 use native.Mathlib.Omega.{arith}
-use borrow.Author.Tests.{eq-eqb}
+use borrow.Author.Tests.{eq-eqb, eqb-true}
 use lib.Dec.{T, eqb, eqb→eq}
 use lib.ListN.{length, getD, set, take, drop, drop-of-length-le, length-append, length-take, length-drop}
 use lib.Seq.{slice, drop-cons, take-suc, length-take-le, set-at, append-snoc, take-all, drop-length, getD-drop, getD-take, length-slice, slice-empty, drop-append-le}
-use Rattle.base.specs.Lists.{every, pairwise, isIn, listFrom, written, over}
-use Rattle.base.proofs.Bools.{and-left, and-right, or-l, or-r, or-e, or-false, T-of}
+use Rattle.base.specs.Lists.{every, pairwise, isIn, sameList, listFrom, written, over}
+use Rattle.base.proofs.Bools.{and-left, and-right, or-l, or-r, or-e, or-false, T-true, T-false, T-of, both-ways}
 
 -- ---- a loop that tests a list from the front: the test of the whole list is the test of what is left of it
 
@@ -85,6 +85,26 @@ in-where c (x ∷ xs) t = go (or-e (eqb x c) (isIn c xs) t) (in-where c xs)
     go : T (eqb x c) ⊎ T (isIn c xs) → (T (isIn c xs) → (i : ℕ) × (i < length xs) × (getD xs i 0 ≡ c)) → (i : ℕ) × (i < suc (length xs)) × (getD (x ∷ xs) i 0 ≡ c)
     go (inl a) ih = (0, omega arith, eqb→eq x c a)
     go (inr b) ih = let r : (i : ℕ) × (i < length xs) × (getD xs i 0 ≡ c) = ih b in (suc (r .0), omega arith, r .2)
+
+-- ---- equal lists
+
+pub same-list : (xs ys : List ℕ) → xs ≡ ys → sameList xs ys ≡ true
+unfolding sameList
+same-list xs ys e = ap (sameList xs) (sym e) ∙ self xs
+  where
+    self : (l : List ℕ) → sameList l l ≡ true
+    self [] = refl
+    self (x ∷ l) = ap (λ (t : Bool). t && sameList l l) (eq-eqb x x refl) ∙ self l
+
+pub list-same : (xs ys : List ℕ) → sameList xs ys ≡ true → xs ≡ ys
+unfolding sameList
+list-same [] [] e = refl
+list-same [] (y ∷ ys) e = absurd (both-ways false e refl)
+list-same (x ∷ xs) [] e = absurd (both-ways false e refl)
+list-same (x ∷ xs) (y ∷ ys) e = ap₂ _∷_ (eqb-true x y (and-left (eqb x y) (sameList xs ys) e)) (list-same xs ys (and-right (eqb x y) (sameList xs ys) e))
+
+pub other-list : (xs ys : List ℕ) → (xs ≡ ys → ⊥) → sameList xs ys ≡ false
+other-list xs ys n = T-false (sameList xs ys) (λ t. n (list-same xs ys (T-true (sameList xs ys) t)))
 
 -- ---- parts of a list
 

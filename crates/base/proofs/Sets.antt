@@ -11,7 +11,7 @@ use native.Mathlib.Decide.{ℕ-discrete}
 use lib.Dec.{T}
 use lib.ListN.{length, getD}
 use Rattle.base.specs.Lists.{every}
-use Rattle.base.specs.Sets.{anyBelow, everyBelow, sumBelow, one-if, countBelow, sumOver, keep, membersFrom, membersBelow}
+use Rattle.base.specs.Sets.{anyBelow, firstBelow, everyBelow, sumBelow, one-if, countBelow, sumOver, keep, membersFrom, membersBelow}
 use Rattle.base.proofs.Bools.{decide, and-l, and-r, and-i, or-l, or-r, or-e, T-true, T-false, T-of}
 
 -- ---- any
@@ -45,6 +45,17 @@ any-none n p f = T-false (anyBelow n p) (λ t. let r : (i : ℕ) × (i < n) × T
 -- nothing below n passes: what a scan that found nothing says
 abbrev pub None : (ℕ → Bool) → ℕ → Type 0
 None p n = (i : ℕ) → i < n → T (p i) → ⊥
+
+-- ---- the first
+
+-- i passes and nothing before it does
+pub first-is : (n : ℕ) (p : ℕ → Bool) (i : ℕ) → i < n → T (p i) → None p i → firstBelow n p ≡ i
+unfolding firstBelow
+first-is zero p i h t none = absurd (not-suc-le-zero h)
+first-is (suc n) p zero h t none = ap (λ (b : Bool). cond b 0 (suc (firstBelow n (λ i. p (suc i))))) (T-true (p 0) t)
+first-is (suc n) p (suc i) h t none =
+    ap (λ (b : Bool). cond b 0 (suc (firstBelow n (λ i. p (suc i))))) (T-false (p 0) (none 0 (omega arith)))
+    ∙ ap suc (first-is n (λ i. p (suc i)) i (omega arith) t (λ j l. none (suc j) (omega arith)))
 
 -- ---- every
 

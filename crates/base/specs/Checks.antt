@@ -1,7 +1,7 @@
 -- The chain of checks. A call's checks are one `Checked`, the first refusal of its conditions in document 01's order; by `after` it
 -- decides the call's own answer and each list the call was lent.
 use mathlib.Core.Bool.{Bool, true, false, cond}
-use Prim.Native.Nat.{ℕ}
+use Prim.Native.Nat.{ℕ, zero, suc}
 use lib.Dec.{eqb}
 use Rattle.base.specs.declared.Refusal.{Refusal}
 use Rattle.base.specs.declared.Checked.{Checked}
@@ -39,6 +39,11 @@ mustBe expected actual = cond (eqb actual expected) Accepted (Refused (wrongLeng
 unfoldable pub _then_ : Checked → Checked → Checked
 _then_ Accepted next = next
 _then_ (Refused r) next = Refused r
+
+-- check 0, check 1, … , n of them: the first that refuses decides
+unfoldable pub checksBelow : ℕ → (ℕ → Checked) → Checked
+checksBelow zero check = Accepted
+checksBelow (suc n) check = checksBelow n check then check n
 
 -- what a call answers, or leaves in a list, where its checks accept, and by what it hands a refusal on
 abbrev pub after : {A : Type 0} → Checked → A → (Refusal → A) → A

@@ -28,6 +28,13 @@ unfoldable pub isIn : ℕ → List ℕ → Bool
 isIn c [] = false
 isIn c (x ∷ xs) = eqb x c || isIn c xs
 
+-- the same numbers in the same places, length included
+unfoldable pub sameList : List ℕ → List ℕ → Bool
+sameList [] [] = true
+sameList [] (y ∷ ys) = false
+sameList (x ∷ xs) [] = false
+sameList (x ∷ xs) (y ∷ ys) = eqb x y && sameList xs ys
+
 -- f at, f (at + 1), …: k of them
 unfoldable pub listFrom : {A : Type 0} → (ℕ → A) → ℕ → ℕ → List A
 listFrom f zero at = []

@@ -1,13 +1,23 @@
--- A set of numbers is a predicate `ℕ → Bool`. What is said of the members below a bound: whether there is one, whether all are, how many,
--- a sum over them, and the members in rising order.
+-- A set of numbers is a predicate `ℕ → Bool`. What is said of the members below a bound: whether there is one, which is the first, whether all
+-- are, how many, a sum over them, and the members in rising order.
 use mathlib.Core.Bool.{Bool, true, false, cond, _&&_, _||_}
 use mathlib.Core.List.{List, [], _∷_}
 use Prim.Native.Nat.{ℕ, zero, suc, _+_}
+use lib.Dec.{leb, ltb}
+
+-- the numbers from lo up to, and without, hi
+abbrev pub between : ℕ → ℕ → ℕ → Bool
+between lo hi i = leb lo i && ltb i hi
 
 -- some number below n passes
 unfoldable pub anyBelow : ℕ → (ℕ → Bool) → Bool
 anyBelow zero p = false
 anyBelow (suc n) p = anyBelow n p || p n
+
+-- the lowest number below n that passes, or n where none does
+unfoldable pub firstBelow : ℕ → (ℕ → Bool) → ℕ
+firstBelow zero p = 0
+firstBelow (suc n) p = cond (p 0) 0 (suc (firstBelow n (λ i. p (suc i))))
 
 -- every number below n passes
 unfoldable pub everyBelow : ℕ → (ℕ → Bool) → Bool

@@ -6,20 +6,21 @@ use mathlib.Core.List.{List}
 use Prim.Native.Nat.{ℕ, _+_, _-_, _*_, _/_, _%_, _^_, _≤_, _<_}
 use native.Mathlib.Omega.{arith}
 use native.Mathlib.Numerals.{add-one}
-use borrow.Author.Tests.{eq-eqb, ne-eqb, lt-ltb}
+use borrow.Author.Tests.{eq-eqb, ne-eqb, lt-ltb, le-ltb}
 use lib.Bits.{bitAnd, bitOr}
-use lib.Dec.{ltb, eqb}
+use lib.Dec.{T, leb, ltb, eqb, leb→le, lt→ltb, ltb→lt}
 use lib.ListN.{length, getD, set, take}
 use lib.Seq.{take-suc}
 use Rattle.base.specs.Lists.{isIn}
-use Rattle.base.proofs.Bools.{eq-or-ne, or-false}
+use Rattle.base.specs.Sets.{between}
+use Rattle.base.proofs.Bools.{eq-or-ne, lt-or-le, not-below, and-l, and-r, or-false, T-false}
 use Rattle.base.proofs.Lists.{in-snoc}
 use Rattle.word.specs.Bits.{bitAt, wordOf}
 use Rattle.word.proofs.Bits.{one-shl, bit-test}
-use Rattle.word.proofs.Words.{word-ext, word-of-bits, word-op, or-bitwise, and-bitwise, and-not-bitwise, word-one, word-below}
+use Rattle.word.proofs.Words.{word-ext, word-none, word-of-bits, word-op, or-bitwise, and-bitwise, and-not-bitwise, word-one, word-below}
 use Rattle.mask.specs.Mask.{inMask, wordsFor, maskWords, IsMask}
-use Rattle.mask.specs.Answers.{withNode, withWord}
-use Rattle.mask.proofs.Masks.{mask-cong, mask-holds, is-length, is-word, mask-store}
+use Rattle.mask.specs.Answers.{withNode, withWord, withRange}
+use Rattle.mask.proofs.Masks.{mask-cong, mask-holds, word-at, is-length, is-word, mask-store}
 
 -- reading a node
 pub bit-read : (words : List ℕ) (i : ℕ) → not (eqb (bitAnd (getD words (i / 64) 0) ((1 * 2 ^ (i % 64)) % 2 ^ 64)) 0) ≡ inMask words i
@@ -152,14 +153,84 @@ fill-turn len l k h =
         choose (eqb i (getD l k 0)) (isIn i (take k l)) ∙ ap (λ (t : Bool). isIn i (take k l) || t) (swap i (getD l k 0))
         ∙ sym (in-snoc i (take k l) (getD l k 0)) ∙ ap (isIn i) (sym (take-suc l k 0 h) ∙ ap (λ (n : ℕ). take n l) (sym (add-one k)))
 
--- the bits of word w below the length
-pub valid-all : (len w : ℕ) → 64 ≤ len - w * 64 → 2 ^ 64 - 1 ≡ wordOf (λ i. ltb i len) w
-valid-all len w h =
-    sym (word-below (64 * w) 64 64 (omega arith))
-    ∙ word-ext (λ i. ltb i (64 * w + 64)) (λ i. ltb i len) 64 (64 * w) (λ i l u. lt-ltb i (64 * w + 64) u ∙ sym (lt-ltb i len (omega arith)))
+-- the bits of word w below a bound: none, all, some
+pub below-none : (bound w : ℕ) → bound ≤ w * 64 → 0 ≡ wordOf (λ i. ltb i bound) w
+below-none bound w h = sym (word-none (λ i. ltb i bound) 64 (64 * w) (λ i l u t. absurd (omega (arith, ltb→lt i bound t))))
 
-pub valid-part : (len w : ℕ) → w < wordsFor len → len - w * 64 < 64 → (1 * 2 ^ (len - w * 64)) % 2 ^ 64 - 1 ≡ wordOf (λ i. ltb i len) w
-valid-part len w l h =
-    let e : 64 * w + (len - w * 64) ≡ len = omega arith in
-    ap (λ (x : ℕ). x - 1) (one-shl (len - w * 64) h)
-    ∙ sym (word-below (64 * w) (len - w * 64) 64 (omega arith)) ∙ ap (λ (n : ℕ). wordOf (λ i. ltb i n) w) e
+pub below-all : (bound w : ℕ) → 64 ≤ bound - w * 64 → 2 ^ 64 - 1 ≡ wordOf (λ i. ltb i bound) w
+below-all bound w h =
+    sym (word-below (64 * w) 64 64 (omega arith))
+    ∙ word-ext (λ i. ltb i (64 * w + 64)) (λ i. ltb i bound) 64 (64 * w) (λ i l u. lt-ltb i (64 * w + 64) u ∙ sym (lt-ltb i bound (omega arith)))
+
+pub below-some : (bound w : ℕ) → w * 64 < bound → bound - w * 64 < 64 → (1 * 2 ^ (bound - w * 64)) % 2 ^ 64 - 1 ≡ wordOf (λ i. ltb i bound) w
+below-some bound w l h =
+    let e : 64 * w + (bound - w * 64) ≡ bound = omega arith in
+    ap (λ (x : ℕ). x - 1) (one-shl (bound - w * 64) h)
+    ∙ sym (word-below (64 * w) (bound - w * 64) 64 (omega arith)) ∙ ap (λ (n : ℕ). wordOf (λ i. ltb i n) w) e
+
+-- ---- a range of nodes, a word at a time
+
+module _ (len : ℕ) (words : List ℕ) (start end : ℕ) where
+  -- before word w is written
+  abbrev pub ranged : ℕ → ℕ → Bool
+  ranged w i = inMask words i || (between start end i && ltb i (64 * w))
+
+  pub range-none : IsMask len words → words ≡ maskWords len (ranged (start / 64))
+  range-none m =
+      m .exact
+      ∙ mask-cong len (inMask words) (ranged (start / 64))
+      (λ i l. sym (ap (λ (t : Bool). inMask words i || t) (T-false (between start end i && ltb i (64 * (start / 64))) (λ t. none i t)) ∙ or-false (inMask words i)))
+    where
+      none : (i : ℕ) → T (between start end i && ltb i (64 * (start / 64))) → ⊥
+      none i t =
+          let a : start ≤ i = leb→le start i (and-l (leb start i) (ltb i end) (and-l (between start end i) (ltb i (64 * (start / 64))) t)) in
+          absurd (omega (arith, ltb→lt i (64 * (start / 64)) (and-r (between start end i) (ltb i (64 * (start / 64))) t)))
+
+  pub range-turn : (w hi lo : ℕ) → w < wordsFor len → end ≤ len → hi ≡ wordOf (λ i. ltb i end) w → lo ≡ wordOf (λ i. ltb i start) w
+      → set (maskWords len (ranged w)) w (bitOr (getD (maskWords len (ranged w)) w 0) (bitAnd hi (2 ^ 64 - 1 - lo))) ≡ maskWords len (ranged (w + 1))
+  range-turn w hi lo h le eh el =
+      mask-store len (ranged w) (ranged (w + 1)) w (bitOr (getD (maskWords len (ranged w)) w 0) (bitAnd hi (2 ^ 64 - 1 - lo))) h
+      (ap₂ bitOr (word-at len (ranged w) w h)
+      (ap₂ (λ (a b : ℕ). bitAnd a (2 ^ 64 - 1 - b)) eh el ∙ word-op 64 (λ a b. bitAnd a (2 ^ 64 - 1 - b)) (λ s t. s && not t) (and-not-bitwise 64) (λ i. ltb i end) (λ i. ltb i start) (64 * w))
+      ∙ word-op 64 bitOr (λ s t. s || t) (or-bitwise 64) (λ i. ltb i len && ranged w i) (λ i. ltb i end && not (ltb i start)) (64 * w)
+      ∙ word-ext (λ i. (ltb i len && ranged w i) || (ltb i end && not (ltb i start))) (λ i. ltb i len && ranged (w + 1) i) 64 (64 * w) (λ i l u. here i l u))
+      (λ i l n. ap (λ (t : Bool). inMask words i || (between start end i && t)) (away i n))
+    where
+      away : (i : ℕ) → i / 64 ≢ w → ltb i (64 * w) ≡ ltb i (64 * (w + 1))
+      away i n = go (lt-or-le i (64 * w))
+        where
+          go : (i < 64 * w) ⊎ (64 * w ≤ i) → ltb i (64 * w) ≡ ltb i (64 * (w + 1))
+          go (inl a) = lt-ltb i (64 * w) a ∙ sym (lt-ltb i (64 * (w + 1)) (omega arith))
+          go (inr a) = le-ltb i (64 * w) a ∙ sym (le-ltb i (64 * (w + 1)) (past a))
+            where
+              past : 64 * w ≤ i → 64 * (w + 1) ≤ i
+              past a = one (lt-or-le i (64 * (w + 1)))
+                where
+                  one : (i < 64 * (w + 1)) ⊎ (64 * (w + 1) ≤ i) → 64 * (w + 1) ≤ i
+                  one (inl b) = let e : i / 64 ≡ w = omega arith in absurd (n e)
+                  one (inr b) = b
+
+      same : (a m s e : Bool) → (T e → T a) → ((a && (m || ((s && e) && false))) || (e && s)) ≡ (a && (m || ((s && e) && true)))
+      same true true s e f = refl
+      same true false true true f = refl
+      same true false true false f = refl
+      same true false false true f = refl
+      same true false false false f = refl
+      same false m s true f = absurd (f tt)
+      same false m s false f = refl
+
+      here : (i : ℕ) → 64 * w ≤ i → i < 64 * w + 64 → ((ltb i len && ranged w i) || (ltb i end && not (ltb i start))) ≡ (ltb i len && ranged (w + 1) i)
+      here i l u =
+          ap₂ (λ (x y : Bool). (ltb i len && (inMask words i || (between start end i && x))) || (ltb i end && y)) (le-ltb i (64 * w) l) (not-below i start)
+          ∙ same (ltb i len) (inMask words i) (leb start i) (ltb i end) (λ t. lt→ltb i len (omega (arith, ltb→lt i end t)))
+          ∙ ap (λ (x : Bool). ltb i len && (inMask words i || (between start end i && x))) (sym (lt-ltb i (64 * (w + 1)) (omega arith)))
+
+  pub range-done : (w : ℕ) → wordsFor end ≤ w → maskWords len (ranged w) ≡ withRange len words start end
+  range-done w h =
+      mask-cong len (ranged w) (λ i. inMask words i || between start end i)
+      (λ i l. ap (λ (t : Bool). inMask words i || t) (whole (between start end i) (ltb i (64 * w)) (λ t. lt→ltb i (64 * w) (omega (arith, ltb→lt i end (and-r (leb start i) (ltb i end) t))))))
+    where
+      whole : (b t : Bool) → (T b → T t) → (b && t) ≡ b
+      whole true true f = refl
+      whole true false f = absurd (f tt)
+      whole false t f = refl

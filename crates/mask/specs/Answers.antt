@@ -6,7 +6,7 @@ use lib.Dec.{ltb, leb, eqb}
 use lib.ListN.{length}
 use Rattle.base.specs.Checks.{must, _then_, after, leaves, sideLimit}
 use Rattle.base.specs.Lists.{every, below, isIn, over}
-use Rattle.base.specs.Sets.{anyBelow, countBelow, membersBelow}
+use Rattle.base.specs.Sets.{between, anyBelow, countBelow, membersBelow}
 use Rattle.base.specs.declared.Checked.{Checked}
 use Rattle.word.specs.Bits.{bitAt}
 use Rattle.mask.specs.Mask.{inMask, wordsFor, maskWords, maskCheck, lengthCheck}
@@ -97,3 +97,8 @@ withWord len words w bits = maskWords len (λ i. inMask words i || (eqb (i / 64)
 
 abbrev pub orWordWords : ℕ → List ℕ → ℕ → ℕ → List ℕ
 orWordWords len words w bits = leaves (maskCheck len words) (withWord len words w bits) words
+
+-- ---- the mask with the nodes from start up to end taken too
+
+abbrev pub withRange : ℕ → List ℕ → ℕ → ℕ → List ℕ
+withRange len words start end = maskWords len (λ i. inMask words i || between start end i)

@@ -14,7 +14,7 @@ ghost use Rattle.base.specs.Sets.{anyBelow, countBelow, membersBelow};
 ghost use Rattle.word.specs.Bits.{wordOf};
 ghost use Rattle.word.specs.Answers.{on};
 ghost use Rattle.mask.specs.Mask.{inMask, wordsFor, maskWords, shapeCheck, lengthCheck, IsMask};
-ghost use Rattle.mask.specs.Answers.{withNode, withWord, combined};
+ghost use Rattle.mask.specs.Answers.{withNode, withWord, withRange, combined};
 
 pub fn words_for(len: usize) -> usize
     requires { ⌜ len ≤ sideLimit ⌝ }
@@ -168,12 +168,16 @@ pub fn write_members(len: usize, words: &[u64], out: &mut [u64])
     }
 }
 
-// The bits of word w that lie below the length.
-pub fn valid_bits(len: usize, w: usize) -> u64
-    requires { ⌜ (len ≤ sideLimit) × (w < wordsFor len) ⌝ }
-    ensures { λ r. ⌜ r ≡ wordOf (λ i. ltb i len) w ⌝ }
+// The bits of word w that lie below the bound.
+pub fn bits_below(bound: usize, w: usize) -> u64
+    requires { ⌜ (bound ≤ sideLimit) × (w ≤ sideLimit) ⌝ }
+    ensures { λ r. ⌜ r ≡ wordOf (λ i. ltb i bound) w ⌝ }
 {
-    let left = len - w * AbtmTopologyWord::BITS;
+    let first = w * AbtmTopologyWord::BITS;
+    if bound <= first {
+        return 0;
+    }
+    let left = bound - first;
     if left >= AbtmTopologyWord::BITS {
         return u64::MAX;
     }
@@ -187,5 +191,18 @@ pub fn or_word(len: usize, words: &mut [u64], w: usize, bits: u64)
     if w >= words.len() {
         return;
     }
-    words[w] |= bits & valid_bits(len, w);
+    words[w] |= bits & bits_below(len, w);
+}
+
+// The nodes from `start` up to `end` join the mask, a word at a time.
+pub fn add_range(len: usize, words: &mut [u64], start: usize, end: usize)
+    requires { ⌜ IsMask len (now words) × (end ≤ len) ⌝ }
+    ensures { λ _. ⌜ now (words .exit) ≡ withRange len (now (words .entry)) start end ⌝ }
+{
+    let stop = words_for(end);
+    let mut w = start / AbtmTopologyWord::BITS;
+    while w < stop {
+        words[w] |= bits_below(end, w) & !bits_below(start, w);
+        w += 1;
+    }
 }

@@ -3,9 +3,8 @@ use mathlib.Core.Path.{_≡_, refl, sym, ap, _∙_}
 use Prim.Native.Nat.{ℕ, _≤_, _<_}
 use native.Mathlib.Omega.{arith}
 use borrow.Author.Tests.{le-leb, lt-leb}
-use lib.ListN.{length}
+use lib.ListN.{length, drop}
 use mathlib.Core.List.{List, _++_}
-use lib.ListN.{drop}
 use lib.Seq.{length-take-le}
 use Rattle.base.specs.Lists.{isIn}
 use Rattle.base.proofs.Checks.{on-accepted, kept, pass, stop, last-pass, last-stop, call-no, call-yes}

@@ -3,10 +3,9 @@ use mathlib.Core.Path.{_≡_, refl, sym, ap, _∙_}
 use Prim.Native.Nat.{ℕ, _≤_, _<_}
 use native.Mathlib.Omega.{arith}
 use borrow.Author.Tests.{le-leb, lt-leb}
-use lib.ListN.{length}
+use lib.ListN.{length, drop}
 use mathlib.Core.List.{List, _++_}
 use mathlib.Core.Bool.{false}
-use lib.ListN.{drop}
 use lib.Seq.{length-take-le}
 use Rattle.base.proofs.Checks.{on-accepted, kept, pass, stop, last-pass, last-stop}
 use Rattle.mask.specs.Mask.{wordsFor, maskWords}

@@ -9,8 +9,8 @@ use Rattle.mask.proofs.inner.or_word.Tie as tie
 returns : tie.Need-returns
 returns c = or-past _ _ (c .before .before .pre) _ _ (c .if1 .taken)
 
-valid-bits-requires : tie.Need-valid-bits-requires
-valid-bits-requires c κs =
+bits-below-requires : tie.Need-bits-below-requires
+bits-below-requires c κs =
     let s = c .before .before in
     (s .pre .short, omega (arith, is-length _ _ (s .pre)))
 
@@ -27,14 +27,14 @@ same-length : tie.Need-same-length
 same-length c = search needs
 
 returns-2 : tie.Need-returns-2
-returns-2 c = or-in _ _ (c .before .before .before .before .pre) _ _ _ (c .before .before .if1 .left) (search needs) (c .before .valid-bits .ensures)
+returns-2 c = or-in _ _ (c .before .before .before .before .pre) _ _ _ (c .before .before .if1 .left) (search needs) (c .before .bits-below .ensures)
 
 pub or-word-spec : {M : Type 1} → statement M
 or-word-spec =
     tie.close
     (tie.spec
     returns
-    valid-bits-requires
+    bits-below-requires
     mul-words
     slice-read-words
     slice-write-words
