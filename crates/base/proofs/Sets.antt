@@ -12,7 +12,7 @@ use lib.Dec.{T}
 use lib.ListN.{length, getD}
 use Rattle.base.specs.Lists.{every}
 use Rattle.base.specs.Sets.{anyBelow, firstBelow, everyBelow, sumBelow, one-if, countBelow, sumOver, keep, membersFrom, membersBelow}
-use Rattle.base.proofs.Bools.{decide, and-l, and-r, and-i, or-l, or-r, or-e, T-true, T-false, T-of}
+use Rattle.base.proofs.Bools.{decide, and-l, and-r, and-i, or-l, or-r, or-e, T-true, T-false, T-of, not-T-of}
 
 -- ---- any
 
@@ -45,6 +45,14 @@ any-none n p f = T-false (anyBelow n p) (λ t. let r : (i : ℕ) × (i < n) × T
 -- nothing below n passes: what a scan that found nothing says
 abbrev pub None : (ℕ → Bool) → ℕ → Type 0
 None p n = (i : ℕ) → i < n → T (p i) → ⊥
+
+-- one more that does not pass
+pub none-next : (p : ℕ → Bool) (n : ℕ) → p n ≡ false → None p n → None p (n + 1)
+none-next p n e h i l t = go (ℕ-discrete i n)
+  where
+    go : Dec (i ≡ n) → ⊥
+    go (yes d) = not-T-of (p n) e (subst (λ (x : ℕ). T (p x)) d t)
+    go (no d) = h i (omega arith) t
 
 -- ---- the first
 

@@ -1,0 +1,4 @@
+pub mod Codes
+pub mod Orders
+pub mod Layouts
+pub mod Fields
