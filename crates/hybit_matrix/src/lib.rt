@@ -17,6 +17,8 @@ ghost use Rattle.mask.specs.Mask.{maskCheck};
 ghost use Rattle.mask.specs.Answers.{newCheck, newWords, fromCheck, fromWords, emptyAnswer, countAnswer, containsAnswer, setCheck, setWords, pairCheck, combinedWords, union, intersection, andNot, intersectsAnswer, indicesAnswer, indicesList, orWordWords};
 ghost use Rattle.hybit_matrix.specs.Flat.{refusedWith, answeredWith, answeredNone, flatChecked, flatTruth, flatCounted, flatRanked, flatSelected};
 
+pub mod layout;
+
 // number: the refusal's number, or 0. present: there is an answer (false after a refusal, and where the answer is none).
 // value: the count, the bit, or 1 for yes and 0 for no.
 #[repr(C)]
@@ -26,6 +28,17 @@ pub struct Answer {
     pub expected: u64,
     pub actual: u64,
     pub value: u64,
+}
+
+// An answer of two numbers: start and end of a range, or block and component. The rest is as in `Answer`.
+#[repr(C)]
+pub struct PairAnswer {
+    pub number: u32,
+    pub present: bool,
+    pub expected: u64,
+    pub actual: u64,
+    pub first: u64,
+    pub second: u64,
 }
 
 fn refused_with(r: Refusal) -> Answer
