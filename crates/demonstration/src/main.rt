@@ -1,4 +1,4 @@
-// Prints document 01's own examples of words, matrices and masks, as the port answers them.
+// Prints document 01's own examples of words, matrices, masks and layouts, as the port answers them.
 use hybit_matrix::Answer;
 use libc::STDOUT_FILENO;
 
@@ -114,8 +114,61 @@ fn masks() {
     );
 }
 
+// Blocks of one field, built.
+fn built(what: &[u8], kinds: &[u8], ids: &[u64], fields: &[u32], components: &[u32]) {
+    let mut offsets = [0u64; 3];
+    show(
+        what,
+        hybit_matrix::layout::hybit_layout_new(kinds, ids, fields, components, &mut offsets),
+    );
+}
+
+fn layouts() {
+    built(
+        b"blocks of 2 and 1, their total",
+        &[1, 1],
+        &[0, 1],
+        &[0, 0],
+        &[2, 1],
+    );
+    let place = hybit_matrix::layout::hybit_layout_locate(
+        &[1, 1],
+        &[0, 1],
+        &[0, 0],
+        &[2, 1],
+        &[0, 2, 3],
+        2,
+    );
+    io::write_all(STDOUT_FILENO, b"node 2 of them: block ");
+    io::print_decimal(STDOUT_FILENO, place.first);
+    io::write_all(STDOUT_FILENO, b", component ");
+    io::print_decimal(STDOUT_FILENO, place.second);
+    io::write_all(STDOUT_FILENO, b"\n");
+    built(b"no blocks", &[], &[], &[], &[]);
+    built(b"components 2,0", &[1, 1], &[0, 1], &[0, 0], &[2, 0]);
+    built(b"same block twice", &[1, 1], &[0, 0], &[0, 0], &[2, 1]);
+    built(b"kind 7", &[7], &[0], &[0], &[1]);
+    show_check(
+        b"total 4, 3 by 3",
+        hybit_matrix::layout::hybit_layout_validate_square_matrix_size(
+            &[1],
+            &[0],
+            &[0],
+            &[4],
+            &[0, 4],
+            3,
+            3,
+        ),
+    );
+    show_check(
+        b"offsets 1,1",
+        hybit_matrix::layout::hybit_layout_check(&[1], &[0], &[0], &[1], &[1, 1]),
+    );
+}
+
 fn main() {
     words();
     matrices();
     masks();
+    layouts();
 }

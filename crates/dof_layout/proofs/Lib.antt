@@ -2,3 +2,4 @@ pub mod Codes
 pub mod Orders
 pub mod Layouts
 pub mod Fields
+pub mod Worked

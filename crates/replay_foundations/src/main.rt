@@ -1,95 +1,17 @@
 // Replays recorded answers of the original Rust: records of 448 bytes on standard input, each a call, and for each an answer record of 168
 // bytes on standard output. oracle/README.md says what a record holds and how the records are made.
 use hybit_matrix::Answer;
+use records::inner::count_at;
+use records::inner::digit;
+use records::inner::number_at;
+use records::inner::put_list;
+use records::inner::put_number;
+use records::inner::read_list;
+use records::inner::read_narrow;
+use records::inner::read_reals;
 ghost use mathlib.Core.Path.{_≡_};
-ghost use Prim.Native.Nat.{_+_, _<_, _≤_};
+ghost use Prim.Native.Nat.{_≤_};
 ghost use lib.ListN.{length};
-
-fn byte_at(call: &[u8], at: usize) -> u64
-    requires { ⌜ at < length (now call) ⌝ }
-    ensures { λ r. ⌜ r < 256 ⌝ }
-{
-    call[at] as u64
-}
-
-fn half_at(call: &[u8], at: usize) -> u64
-    requires { ⌜ at + 4 ≤ length (now call) ⌝ }
-    ensures { λ r. ⌜ r < 4294967296 ⌝ }
-{
-    byte_at(call, at)
-        + 256 * byte_at(call, at + 1)
-        + 65536 * byte_at(call, at + 2)
-        + 16777216 * byte_at(call, at + 3)
-}
-
-fn number_at(call: &[u8], at: usize) -> u64
-    requires { ⌜ at + 8 ≤ length (now call) ⌝ }
-{
-    half_at(call, at) + 4294967296 * half_at(call, at + 4)
-}
-
-// A list's length, of which there is room for 16.
-fn count_at(call: &[u8], at: usize) -> usize
-    requires { ⌜ at + 8 ≤ length (now call) ⌝ }
-    ensures { λ r. ⌜ r ≤ 16 ⌝ }
-{
-    let n = number_at(call, at);
-    if n < 16 { n as usize } else { 16 }
-}
-
-fn read_list(call: &[u8], at: usize, list: &mut [u64])
-    requires { ⌜ (at + 128 ≤ length (now call)) × (length (now list) ≡ 16) ⌝ }
-{
-    let mut k: usize = 0;
-    while k < 16 {
-        list[k] = number_at(call, at + 8 * k);
-        k += 1;
-    }
-}
-
-fn read_narrow(call: &[u8], at: usize, list: &mut [u32])
-    requires { ⌜ (at + 128 ≤ length (now call)) × (length (now list) ≡ 16) ⌝ }
-{
-    let mut k: usize = 0;
-    while k < 16 {
-        list[k] = (number_at(call, at + 8 * k) % 4294967296) as u32;
-        k += 1;
-    }
-}
-
-// The float of a bit pattern; every NaN is one.
-fn real(bits: u64) -> f64 {
-    if bits % 9223372036854775808 > 0x7ff0_0000_0000_0000 {
-        return 0.0 / 0.0;
-    }
-    f64::from_bits(bits)
-}
-
-fn read_reals(call: &[u8], at: usize, list: &mut [f64])
-    requires { ⌜ (at + 128 ≤ length (now call)) × (length (now list) ≡ 16) ⌝ }
-{
-    let mut k: usize = 0;
-    while k < 16 {
-        list[k] = real(number_at(call, at + 8 * k));
-        k += 1;
-    }
-}
-
-fn put_number(out: &mut [u8], at: usize, value: u64)
-    requires { ⌜ at + 8 ≤ length (now out) ⌝ }
-{
-    let mut left = value;
-    let mut k: usize = 0;
-    while k < 8 {
-        out[at + k] = (left % 256) as u8;
-        left = left / 256;
-        k += 1;
-    }
-}
-
-fn digit(yes: bool) -> u64 {
-    if yes { 1 } else { 0 }
-}
 
 fn put_answer(out: &mut [u8], a: Answer)
     requires { ⌜ length (now out) ≡ 168 ⌝ }
@@ -99,16 +21,6 @@ fn put_answer(out: &mut [u8], a: Answer)
     put_number(out, 16, a.expected);
     put_number(out, 24, a.actual);
     put_number(out, 32, a.value);
-}
-
-fn put_list(out: &mut [u8], list: &[u64])
-    requires { ⌜ (length (now out) ≡ 168) × (length (now list) ≤ 16) ⌝ }
-{
-    let mut k: usize = 0;
-    while k < list.len() {
-        put_number(out, 40 + 8 * k, list[k]);
-        k += 1;
-    }
 }
 
 fn plain(value: u64) -> Answer {
@@ -192,7 +104,7 @@ fn run_writing(
 {
     let a = writing_call(code, len, list, b, c, other);
     put_answer(out, a);
-    put_list(out, list);
+    put_list(out, 40, list);
 }
 
 fn run_indices(len: usize, words: &[u64], list: &mut [u64], out: &mut [u8])
@@ -200,7 +112,7 @@ fn run_indices(len: usize, words: &[u64], list: &mut [u64], out: &mut [u8])
 {
     let a = hybit_matrix::hybit_mask_indices(len, words, list);
     put_answer(out, a);
-    put_list(out, list);
+    put_list(out, 40, list);
 }
 
 fn mask_call(code: u8, call: &[u8], out: &mut [u8])

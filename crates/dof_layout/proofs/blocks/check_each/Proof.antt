@@ -1,14 +1,16 @@
 -- `dof_layout::blocks::check_each` meets its contract. Assumes nothing.
 use mathlib.Core.Path.{_≡_, sym, ap, _∙_}
 use mathlib.Core.List.{List}
+use mathlib.Core.Bool.{true, false}
 use Prim.Native.Nat.{ℕ, _+_, _-_, _≤_}
 use native.Mathlib.Omega.{arith}
 use lib.ListN.{length, getD}
 use borrow.Author.Needs.{needs}
+use Rattle.base.specs.Sets.{anyBelow}
 use Rattle.base.specs.Checks.{sideLimit, checksBelow}
 use Rattle.base.specs.declared.Checked.{Checked}
 use Rattle.base.proofs.Checks.{call-no, call-yes, checks-none, checks-next, checks-stop}
-use Rattle.dof_layout.specs.Layout.{startOf, blockCheck}
+use Rattle.dof_layout.specs.Layout.{startOf, isKind, sameKey, blockCheck}
 use Rattle.dof_layout.specs.Keys.{Highest}
 use Rattle.dof_layout.proofs.Layouts.{start-zero, start-next, block-17, block-15, block-16, block-1, block-ok}
 use Rattle.dof_layout.proofs.blocks.check_each.Statement.{statement}
@@ -108,17 +110,22 @@ loop-less c = search needs
 
 loop-again : tie.Need-loop-again Inv-loop μ-loop
 loop-again c =
-    let l = c .before .before .before .before .before .before .before .before .before .before .before .loop .inv in
+    let s = c .before .before .before .before .before .before .before .before .before .before .before .before .before .before .before .before .args in
+    let ks = s .kinds .now in
+    let cs = s .components .now in
+    let l = c .before .before .before .before .before .before .before .before .before .before .before .loop in
+    let b = l .b in
+    let kind : isKind (getD ks b 0) ≡ true = call-yes _ _ (c .before .before .before .before .before .before .before .before .is-kind .ensures) (c .before .before .before .before .before .before .before .if1 .left) in
+    let fresh : anyBelow b (λ a. sameKey ks (s .ids .now) (s .fields .now) a b) ≡ false = sym (c .before .before .before .before .repeats .ensures) ∙ c .before .before .before .if3 .left in
     record {
       within = omega (arith, c .before .before .before .before .before .before .before .before .before .before .loop-test .taken);
-      running = ap (λ (n : ℕ). n + getD (c .before .before .before .before .before .before .before .before .before .before .before .before .before .before .before .before .args .components .now) (c .before .before .before .before .before .before .before .before .before .before .before .loop .b) 0) (l .running) ∙ sym (start-next (c .before .before .before .before .before .before .before .before .before .before .before .before .before .before .before .before .args .components .now) (c .before .before .before .before .before .before .before .before .before .before .before .loop .b));
+      running = ap (λ (n : ℕ). n + getD cs b 0) (l .inv .running) ∙ sym (start-next cs b);
       short = c .before .before .if4 .left;
       top-in = omega (arith, c .before .highest .ensures .0);
       top-field-in = omega (arith, c .highest-by-field .ensures .0);
       highest = c .before .highest .ensures .1;
       highest-field = c .highest-by-field .ensures .1;
-      checks = checks-next _ _ (l .checks)
-          (block-ok _ _ _ _ _ (call-yes _ _ (c .before .before .before .before .before .before .before .before .is-kind .ensures) (c .before .before .before .before .before .before .before .if1 .left)) (c .before .before .before .before .before .if2 .left) (sym (c .before .before .before .before .repeats .ensures) ∙ c .before .before .before .if3 .left) (omega (arith, c .before .before .if4 .left, l .running)));
+      checks = checks-next b _ (l .inv .checks) (block-ok ks (s .ids .now) (s .fields .now) cs b kind (c .before .before .before .before .before .if2 .left) fresh (omega (arith, c .before .before .if4 .left, l .inv .running)));
     }
 
 returns-5 : tie.Need-returns-5 Inv-loop μ-loop

@@ -3,7 +3,7 @@ use mathlib.Core.Path.{_≡_, sym, ap, _∙_}
 use native.Mathlib.Omega.{arith}
 use Prim.Native.Nat.{ℕ, _-_, _≤_}
 use lib.Dec.{T}
-use mathlib.Core.Bool.{Bool}
+use mathlib.Core.Bool.{Bool, false}
 use Rattle.base.specs.Sets.{anyBelow}
 use Rattle.base.proofs.Bools.{T-of, T-true}
 use Rattle.base.proofs.Sets.{None, any-i, any-none, none-next}
@@ -34,7 +34,11 @@ loop-less : tie.Need-loop-less Inv-loop μ-loop
 loop-less c = search needs
 
 loop-again : tie.Need-loop-again Inv-loop μ-loop
-loop-again c = let s = c .before .before .before .before .before .before .before .args in (omega arith, none-next (λ i. sameKey (s .kinds .now) (s .ids .now) (s .fields .now) i (s .b)) _ (sym (c .before .same .ensures) ∙ c .if1 .left) (c .before .before .before .loop .inv .1))
+loop-again c =
+    let s = c .before .before .before .before .before .before .before .args in
+    let a = c .before .before .before .loop .a in
+    let other : sameKey (s .kinds .now) (s .ids .now) (s .fields .now) a (s .b) ≡ false = sym (c .before .same .ensures) ∙ c .if1 .left in
+    (omega arith, none-next (λ i. sameKey (s .kinds .now) (s .ids .now) (s .fields .now) i (s .b)) a other (c .before .before .before .loop .inv .1))
 
 returns-2 : tie.Need-returns-2 Inv-loop μ-loop
 returns-2 c =

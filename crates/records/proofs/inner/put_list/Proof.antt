@@ -1,16 +1,16 @@
--- `replay_foundations::put_list` meets its contract. The list keeps its length. Assumes nothing.
+-- `records::inner::put_list` meets its contract. The list keeps its length. Assumes nothing.
 use mathlib.Core.Path.{_≡_}
 use Prim.Native.Nat.{_-_, _≤_}
 use lib.ListN.{length}
 use borrow.Author.Needs.{needs}
-use Rattle.replay_foundations.proofs.put_list.Statement.{statement}
-use Rattle.replay_foundations.proofs.put_list.Tie as tie
+use Rattle.records.proofs.inner.put_list.Statement.{statement}
+use Rattle.records.proofs.inner.put_list.Tie as tie
 
 abbrev Inv-loop : tie.InvT-loop
-Inv-loop out₀ list k₀ out k = (k ≤ length list) × (length out ≡ length out₀)
+Inv-loop out₀ at list k₀ out k = (k ≤ length list) × (length out ≡ length out₀)
 
 abbrev μ-loop : tie.MeasureT-loop
-μ-loop out₀ list k₀ out k = length list - k
+μ-loop out₀ at list k₀ out k = length list - k
 
 loop-holds : tie.Need-loop-holds Inv-loop μ-loop
 loop-holds c = search needs

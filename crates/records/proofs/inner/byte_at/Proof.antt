@@ -1,8 +1,8 @@
--- `replay_foundations::byte_at` meets its contract. Assumes nothing.
+-- `records::inner::byte_at` meets its contract. Assumes nothing.
 use native.Mathlib.Omega.{arith}
 use borrow.Author.Needs.{needs}
-use Rattle.replay_foundations.proofs.byte_at.Statement.{statement}
-use Rattle.replay_foundations.proofs.byte_at.Tie as tie
+use Rattle.records.proofs.inner.byte_at.Statement.{statement}
+use Rattle.records.proofs.inner.byte_at.Tie as tie
 
 shared-slice-read-result : tie.Need-shared-slice-read-result
 shared-slice-read-result c = search needs

@@ -1,11 +1,11 @@
--- `replay_foundations::read_list` meets its contract. The list keeps its length. Assumes nothing.
+-- `records::inner::read_list` meets its contract. The list keeps its length. Assumes nothing.
 use mathlib.Core.Path.{_≡_}
 use Prim.Native.Nat.{_-_, _≤_}
 use native.Mathlib.Omega.{arith}
 use lib.ListN.{length, length-set}
 use borrow.Author.Needs.{needs}
-use Rattle.replay_foundations.proofs.read_list.Statement.{statement}
-use Rattle.replay_foundations.proofs.read_list.Tie as tie
+use Rattle.records.proofs.inner.read_list.Statement.{statement}
+use Rattle.records.proofs.inner.read_list.Tie as tie
 
 abbrev Inv-loop : tie.InvT-loop
 Inv-loop call at list₀ k₀ list k = (k ≤ 16) × (length list ≡ length list₀)

@@ -1,11 +1,11 @@
--- `replay_foundations::put_number` meets its contract. The list keeps its length. Assumes nothing.
+-- `records::inner::put_number` meets its contract. The list keeps its length. Assumes nothing.
 use mathlib.Core.Path.{_≡_}
 use Prim.Native.Nat.{_-_, _≤_}
 use native.Mathlib.Omega.{arith}
 use lib.ListN.{length, length-set}
 use borrow.Author.Needs.{needs}
-use Rattle.replay_foundations.proofs.put_number.Statement.{statement}
-use Rattle.replay_foundations.proofs.put_number.Tie as tie
+use Rattle.records.proofs.inner.put_number.Statement.{statement}
+use Rattle.records.proofs.inner.put_number.Tie as tie
 
 abbrev Inv-loop : tie.InvT-loop
 Inv-loop out₀ at value left₀ k₀ out left k = (k ≤ 8) × (length out ≡ length out₀)

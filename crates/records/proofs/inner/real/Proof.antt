@@ -1,4 +1,4 @@
--- `replay_foundations::real` is safe: a pattern that is no NaN's is taken as it is. Assumes nothing.
+-- `records::inner::real` is safe: a pattern that is no NaN's is taken as it is. Assumes nothing.
 use mathlib.Core.Path.{_≡_, ap}
 use mathlib.Core.Bool.{not, _&&_}
 use Prim.Native.Nat.{ℕ, _/_, _%_, _≤_}
@@ -7,8 +7,8 @@ use borrow.Author.Needs.{needs}
 use lib.Dec.{T, eqb, eqb→eq}
 use lib.Ieee.{binary64, nanBits, top, hid, ones}
 use Rattle.base.proofs.Bools.{T-of, T-false, and-l, and-r}
-use Rattle.replay_foundations.proofs.real.Statement.{statement}
-use Rattle.replay_foundations.proofs.real.Tie as tie
+use Rattle.records.proofs.inner.real.Statement.{statement}
+use Rattle.records.proofs.inner.real.Tie as tie
 
 number : (b : ℕ) → b % 9223372036854775808 ≤ 9218868437227405312 → T (not (nanBits binary64 b))
 unfolding nanBits
