@@ -46,13 +46,17 @@ any-none n p f = T-false (anyBelow n p) (λ t. let r : (i : ℕ) × (i < n) × T
 abbrev pub None : (ℕ → Bool) → ℕ → Type 0
 None p n = (i : ℕ) → i < n → T (p i) → ⊥
 
--- one more that does not pass
-pub none-next : (p : ℕ → Bool) (n : ℕ) → p n ≡ false → None p n → None p (n + 1)
-none-next p n e h i l t = go (ℕ-discrete i n)
+-- ---- what holds of every number below b, and of b
+
+pub below-next : (P : ℕ → Type 0) (b : ℕ) → ((i : ℕ) → i < b → P i) → P b → (i : ℕ) → i < b + 1 → P i
+below-next P b h e i l = go (ℕ-discrete i b)
   where
-    go : Dec (i ≡ n) → ⊥
-    go (yes d) = not-T-of (p n) e (subst (λ (x : ℕ). T (p x)) d t)
-    go (no d) = h i (omega arith) t
+    go : Dec (i ≡ b) → P i
+    go (yes d) = subst P (sym d) e
+    go (no d) = h i (omega arith)
+
+pub none-next : (p : ℕ → Bool) (n : ℕ) → p n ≡ false → None p n → None p (n + 1)
+none-next p n e h = below-next (λ i. T (p i) → ⊥) n h (not-T-of (p n) e)
 
 -- ---- the first
 

@@ -12,7 +12,7 @@ use lib.Dec.{T, ltb, eqb, ltb→lt, lt→ltb, eqb→eq}
 use lib.ListN.{getD}
 use Rattle.base.specs.Sets.{anyBelow}
 use Rattle.base.proofs.Bools.{and-l, and-r, and-i, or-l, or-r, or-e, T-false, T-of, not-T-of}
-use Rattle.base.proofs.Sets.{any-none}
+use Rattle.base.proofs.Sets.{any-none, below-next}
 use Rattle.dof_layout.specs.Layout.{sameKey}
 use Rattle.dof_layout.specs.Keys.{above-or, aboveKey, Highest}
 
@@ -81,16 +81,12 @@ module _ (first second third : List ℕ) where
 
   -- it is not: the highest stays
   pub highest-old : (top b : ℕ) → Highest first second third top b → aboveKey first second third b top ≡ false → Highest first second third top (b + 1)
-  highest-old top b h e a l = go (ℕ-discrete a b)
-    where
-      go : Dec (a ≡ b) → aboveKey first second third a top ≡ false
-      go (yes d) = ap (λ (x : ℕ). aboveKey first second third x top) d ∙ e
-      go (no n) = h a (omega arith)
+  highest-old top b h e = below-next (λ a. aboveKey first second third a top ≡ false) b h e
 
 -- ---- the search that is left out
 
 module _ (kinds ids fields : List ℕ) (b : ℕ) where
-  alike : (a : ℕ) → T (sameKey kinds ids fields a b) → (getD kinds a 0 ≡ getD kinds b 0) × (getD ids a 0 ≡ getD ids b 0) × (getD fields a 0 ≡ getD fields b 0)
+  pub alike : (a : ℕ) → T (sameKey kinds ids fields a b) → (getD kinds a 0 ≡ getD kinds b 0) × (getD ids a 0 ≡ getD ids b 0) × (getD fields a 0 ≡ getD fields b 0)
   unfolding sameKey
   alike a t =
       let k = eqb (getD kinds a 0) (getD kinds b 0) in

@@ -1,5 +1,5 @@
 -- What the layout's functions answer, and what they leave in the lists that they are lent.
-use mathlib.Core.Bool.{Bool, cond, _&&_, _||_}
+use mathlib.Core.Bool.{Bool, cond, _&&_}
 use mathlib.Core.List.{List}
 use Prim.Native.Nat.{ℕ, suc, _-_}
 use lib.Dec.{leb, ltb, eqb}
@@ -8,8 +8,8 @@ use Rattle.base.specs.Checks.{must, _then_, after, leaves}
 use Rattle.base.specs.Lists.{over}
 use Rattle.base.specs.declared.Checked.{Checked}
 use Rattle.base.specs.declared.Counted.{Counted}
-use Rattle.mask.specs.Mask.{inMask, wordsFor, maskWords}
-use Rattle.dof_layout.specs.Layout.{startOf, totalOf, offsetsOf, inBlock, blockOf, isKind, blocksCheck, layoutCheck}
+use Rattle.mask.specs.Mask.{wordsFor, maskWords}
+use Rattle.dof_layout.specs.Layout.{startOf, totalOf, offsetsOf, blockOf, isKind, blocksCheck, layoutCheck}
 use Rattle.dof_layout.specs.declared.DofEntityKind.{DofEntityKind}
 use Rattle.dof_layout.specs.declared.Kinded.{Kinded}
 use Rattle.dof_layout.specs.declared.DofAddress.{DofAddress}
@@ -93,10 +93,6 @@ fieldCheck kinds ids fields components offsets out =
 -- the block of node i has the field
 abbrev pub hasField : List ℕ → List ℕ → ℕ → ℕ → Bool
 hasField fields components field i = eqb (getD fields (blockOf components i) 0) field
-
--- the mask with the nodes of block b taken too, if the block has the field
-abbrev pub withBlock : ℕ → List ℕ → List ℕ → List ℕ → ℕ → ℕ → List ℕ
-withBlock len words fields components field b = maskWords len (λ i. inMask words i || (eqb (getD fields b 0) field && inBlock components b i))
 
 -- a mask is a length and words: the length is answered
 abbrev pub fieldAnswer : List ℕ → List ℕ → List ℕ → List ℕ → List ℕ → List ℕ → Counted

@@ -1,11 +1,12 @@
 // The checks of the blocks: 14, 11, then block by block 17, 15, 16, 1.
 use crate::keys;
+use crate::seen;
 use base::Checked;
 ghost use mathlib.Core.Path.{_≡_};
 ghost use lib.ListN.{length};
 ghost use Rattle.base.specs.Checks.{checksBelow};
 ghost use Rattle.dof_layout.specs.Layout.{isKind, blockCheck, blocksCheck};
-ghost use Rattle.dof_layout.specs.Keys.{Keyed};
+ghost use Rattle.dof_layout.specs.Keys.{Keyed, Noted};
 
 fn is_kind(kind: u8) -> bool
     ensures { λ r. ⌜ r ≡ isKind kind ⌝ }
@@ -19,9 +20,15 @@ fn is_kind(kind: u8) -> bool
     kind == 255
 }
 
-// The first block that is refused decides.
-fn check_each(kinds: &[u8], ids: &[u64], fields: &[u32], components: &[u32]) -> Checked
-    requires { ⌜ Keyed (now kinds) (now ids) (now fields) × (length (now components) ≡ length (now kinds)) ⌝ }
+// The first block that is refused decides. `seen` is scratch, all zero.
+fn check_each(
+    kinds: &[u8],
+    ids: &[u64],
+    fields: &[u32],
+    components: &[u32],
+    seen: &mut [u64],
+) -> Checked
+    requires { ⌜ Keyed (now kinds) (now ids) (now fields) × (length (now components) ≡ length (now kinds)) × Noted (now kinds) (now ids) (now fields) (now seen) 0 ⌝ }
     ensures { λ r. ⌜ r ≡ checksBelow (length (now (kinds .entry))) (blockCheck (now (kinds .entry)) (now (ids .entry)) (now (fields .entry)) (now (components .entry))) ⌝ }
 {
     let mut total: u64 = 0;
@@ -36,7 +43,7 @@ fn check_each(kinds: &[u8], ids: &[u64], fields: &[u32], components: &[u32]) -> 
         if size == 0 {
             return base::refused(15);
         }
-        if keys::repeats(kinds, ids, fields, top, top_field, b) {
+        if keys::repeats(kinds, ids, fields, top, top_field, seen, b) {
             return base::refused(16);
         }
         total += size as u64;
@@ -45,6 +52,7 @@ fn check_each(kinds: &[u8], ids: &[u64], fields: &[u32], components: &[u32]) -> 
         }
         top = keys::highest(kinds, ids, fields, top, b);
         top_field = keys::highest_by_field(kinds, ids, fields, top_field, b);
+        seen::take(kinds, ids, fields, seen, b);
         b += 1;
     }
     Checked::Accepted
@@ -66,5 +74,10 @@ pub(crate) fn check(kinds: &[u8], ids: &[u64], fields: &[u32], components: &[u32
     if components.len() != count {
         return base::wrong_length(count, components.len());
     }
-    check_each(kinds, ids, fields, components)
+    if count <= 64 {
+        let mut seen = [0u64; 16];
+        return check_each(kinds, ids, fields, components, &mut seen);
+    }
+    let mut seen = [0u64; 4096];
+    check_each(kinds, ids, fields, components, &mut seen)
 }

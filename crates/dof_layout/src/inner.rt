@@ -4,9 +4,10 @@ ghost use Prim.Native.Nat.{_<_, _≤_};
 ghost use lib.ListN.{length};
 ghost use Rattle.base.specs.Checks.{sideLimit};
 ghost use Rattle.base.specs.Lists.{sameList, over};
-ghost use Rattle.mask.specs.Mask.{wordsFor, maskWords, IsMask};
+ghost use Rattle.mask.specs.Mask.{wordsFor, maskWords};
 ghost use Rattle.dof_layout.specs.Layout.{startOf, totalOf, offsetsOf, blockOf};
-ghost use Rattle.dof_layout.specs.Answers.{hasField, withBlock};
+ghost use Rattle.dof_layout.specs.Answers.{hasField};
+ghost use Rattle.dof_layout.specs.Runs.{Run};
 
 // The running totals at the front of `out`, which has room for them; answers the total.
 pub fn write_offsets(components: &[u32], out: &mut [u64]) -> u64
@@ -61,27 +62,22 @@ pub fn locate(components: &[u32], offsets: &[u64], low: usize, high: usize, dof:
     }
 }
 
-// The nodes of block b join the mask if the block has the field.
-fn add_block(
-    fields: &[u32],
-    components: &[u32],
-    offsets: &[u64],
-    field: u32,
-    total: usize,
-    words: &mut [u64],
-    b: usize,
-)
-    requires { ⌜ (now offsets ≡ offsetsOf (now components)) × (length (now fields) ≡ length (now components)) × (total ≡ totalOf (now components)) × IsMask total (now words) × (b < length (now components)) ⌝ }
-    ensures { λ _. ⌜ now (words .exit) ≡ withBlock total (now (words .entry)) (now (fields .entry)) (now (components .entry)) field b ⌝ }
+// The first block from a on that does not have the field, or the number of blocks.
+fn run_end(fields: &[u32], field: u32, a: usize) -> usize
+    requires { ⌜ a ≤ length (now fields) ⌝ }
+    ensures { λ r. ⌜ Run (now (fields .entry)) field a r ⌝ }
 {
-    if fields[b] == field {
-        let start = offsets[b] as usize;
-        let end = offsets[b + 1] as usize;
-        mask::inner::add_range(total, words, start, end);
+    let mut b = a;
+    while b < fields.len() {
+        if fields[b] != field {
+            return b;
+        }
+        b += 1;
     }
+    b
 }
 
-// The mask of the nodes whose block has the field, on a list of exactly its words.
+// The mask of the nodes whose block has the field, on a list of exactly its words. Neighbouring blocks of the field are one range.
 pub fn fill_field(
     fields: &[u32],
     components: &[u32],
@@ -94,9 +90,12 @@ pub fn fill_field(
 {
     let total = offsets[components.len()] as usize;
     mask::inner::clear(total, words);
-    let mut b: usize = 0;
-    while b < fields.len() {
-        add_block(fields, components, offsets, field, total, words, b);
-        b += 1;
+    let mut a: usize = 0;
+    while a < fields.len() {
+        let b = run_end(fields, field, a);
+        let start = offsets[a] as usize;
+        let end = offsets[b] as usize;
+        mask::inner::add_range(total, words, start, end);
+        a = b + 1;
     }
 }

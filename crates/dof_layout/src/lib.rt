@@ -10,6 +10,7 @@ ghost use Rattle.dof_layout.specs.Answers.{codeOf, kindAnswer, newAnswer
 mod blocks;
 pub mod inner;
 mod keys;
+mod seen;
 
 pub enum DofEntityKind {
     Node,

@@ -8,7 +8,7 @@ use std::cell::RefCell;
 use hybit_original::{DofBlock, FieldAwareDofLayout};
 
 use crate::measure::{Table, repeated, single};
-use blocks::{entity_major, field_major, shuffle};
+use blocks::{entity_major, field_major, scattered, shuffle};
 use port::Lists;
 
 /// The most blocks that document 01 allows, since each has a node at least.
@@ -33,10 +33,18 @@ pub fn rows(table: &mut Table) {
         "32768 blocks of 1, two fields, entity-major",
         &entities,
     );
-    for count in [1_024, 2_048, 4_096, 8_192, 16_384, 32_768] {
-        let mut blocks = entity_major(count, 1, 1);
+    for count in [1_024, 4_096, 16_384, 65_536, 262_144] {
+        let mut blocks = entity_major(count, 2, 1);
         shuffle(&mut blocks);
-        new(table, &format!("{count} blocks of 1, shuffled"), &blocks);
+        new(
+            table,
+            &format!("{count} blocks of 1, two fields, shuffled"),
+            &blocks,
+        );
+    }
+    for count in [1_024, 4_096, 16_384, 65_536] {
+        let blocks = scattered(count);
+        new(table, &format!("{count} blocks of 1, random ids"), &blocks);
     }
     on_layout(table, "1,048,576 blocks of 1, one field", &rising);
     let threes = entity_major(349_525, 1, 3);

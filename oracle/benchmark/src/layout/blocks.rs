@@ -17,15 +17,31 @@ pub fn field_major(entities: usize, fields: usize) -> Vec<DofBlock> {
         .collect()
 }
 
-/// Always the same order (a multiplicative generator chooses the swaps).
+/// Always the same order.
 pub fn shuffle(blocks: &mut [DofBlock]) {
-    let mut state = 1_u64;
+    let mut state = 1;
     for place in (1..blocks.len()).rev() {
-        state = state
-            .wrapping_mul(6_364_136_223_846_793_005)
-            .wrapping_add(1);
+        state = next(state);
         blocks.swap(place, (state >> 33) as usize % (place + 1));
     }
+}
+
+/// Blocks of one component, their ids spread over all 64 bits.
+pub fn scattered(count: usize) -> Vec<DofBlock> {
+    let mut state = 1;
+    (0..count)
+        .map(|_| {
+            state = next(state);
+            block(state as usize, 0, 1)
+        })
+        .collect()
+}
+
+/// A multiplicative generator; it comes back to a state only after 2^64 steps.
+fn next(state: u64) -> u64 {
+    state
+        .wrapping_mul(6_364_136_223_846_793_005)
+        .wrapping_add(1)
 }
 
 fn block(entity: usize, field: usize, components: u32) -> DofBlock {

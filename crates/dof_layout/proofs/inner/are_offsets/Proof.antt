@@ -6,19 +6,12 @@ use native.Mathlib.Omega.{arith}
 use native.Mathlib.Numerals.{add-one}
 use lib.ListN.{length, getD}
 use borrow.Author.Needs.{needs}
-use native.Mathlib.Decide.{ℕ-discrete}
+use Rattle.base.proofs.Sets.{below-next}
 use Rattle.base.proofs.Lists.{other-list}
 use Rattle.dof_layout.specs.Layout.{startOf}
 use Rattle.dof_layout.proofs.Layouts.{start-zero, start-next, start-mono, offsets-length, offset-at, last-decides}
 use Rattle.dof_layout.proofs.inner.are_offsets.Statement.{statement}
 use Rattle.dof_layout.proofs.inner.are_offsets.Tie as tie
-
-before-next : (f g : ℕ → ℕ) (b : ℕ) → ((a : ℕ) → a < b → f a ≡ g a) → f b ≡ g b → (a : ℕ) → a < b + 1 → f a ≡ g a
-before-next f g b h e a l = go (ℕ-discrete a b)
-  where
-    go : Dec (a ≡ b) → f a ≡ g a
-    go (yes d) = ap f d ∙ e ∙ ap g (sym d)
-    go (no d) = h a (omega arith)
 
 abbrev Inv-loop : tie.InvT-loop
 Inv-loop components offsets total₀ b₀ total b = (b ≤ length components) × (total ≡ startOf components b) × ((a : ℕ) → a < b → getD offsets a 0 ≡ startOf components a)
@@ -71,7 +64,7 @@ loop-again : tie.Need-loop-again Inv-loop μ-loop
 loop-again c =
     let l = c .before .before .before .before .loop in
     let cs = c .before .before .before .before .before .before .args .components .now in
-    (omega arith, ap (λ (n : ℕ). n + getD cs (l .b) 0) (l .inv .1) ∙ sym (start-next cs (l .b)), before-next _ _ _ (l .inv .2) (c .before .if2 .left ∙ l .inv .1))
+    (omega arith, ap (λ (n : ℕ). n + getD cs (l .b) 0) (l .inv .1) ∙ sym (start-next cs (l .b)), below-next (λ a. getD (c .before .before .before .before .before .before .args .offsets .now) a 0 ≡ startOf cs a) (l .b) (l .inv .2) (c .before .if2 .left ∙ l .inv .1))
 
 mul-result : tie.Need-mul-result Inv-loop μ-loop
 mul-result c = search needs
