@@ -1,6 +1,10 @@
 //! What a call answers.
 
-/// The fields of both of the port's records.
+/// So many values at most in an answer. The port's records differ in theirs;
+/// those that a record lacks are 0 here.
+pub const VALUES: usize = 2;
+
+/// The fields of all of the port's records.
 #[derive(Clone, Copy, Debug, PartialEq, Eq)]
 pub struct Answer {
     /// The refusal's number, 0 if the call was accepted.
@@ -9,9 +13,7 @@ pub struct Answer {
     pub present: bool,
     pub expected: u64,
     pub actual: u64,
-    /// The only value of most calls.
-    pub first: u64,
-    pub second: u64,
+    pub values: [u64; VALUES],
 }
 
 impl From<hybit_port::Answer> for Answer {
@@ -21,8 +23,7 @@ impl From<hybit_port::Answer> for Answer {
             present: flat.present,
             expected: flat.expected,
             actual: flat.actual,
-            first: flat.value,
-            second: 0,
+            ..Self::told(flat.value)
         }
     }
 }
@@ -34,8 +35,7 @@ impl From<hybit_port::PairAnswer> for Answer {
             present: flat.present,
             expected: flat.expected,
             actual: flat.actual,
-            first: flat.first,
-            second: flat.second,
+            ..Self::told_all(&[flat.first, flat.second])
         }
     }
 }
@@ -43,24 +43,25 @@ impl From<hybit_port::PairAnswer> for Answer {
 impl Answer {
     /// Accepted, with a value.
     pub fn told(value: u64) -> Self {
-        Self::pair(value, 0)
+        Self::told_all(&[value])
     }
 
-    /// Accepted, with two values.
-    pub fn pair(first: u64, second: u64) -> Self {
+    /// Accepted, with several values.
+    pub fn told_all(told: &[u64]) -> Self {
+        let mut values = [0; VALUES];
+        values[..told.len()].copy_from_slice(told);
         Self {
             number: 0,
             present: true,
             expected: 0,
             actual: 0,
-            first,
-            second,
+            values,
         }
     }
 
     /// Accepted, with nothing to tell.
     pub fn done() -> Self {
-        Self::told(0)
+        Self::told_all(&[])
     }
 
     /// Accepted, and the answer is none.
@@ -85,5 +86,9 @@ impl Answer {
             actual: actual as u64,
             ..Self::refused(11)
         }
+    }
+    /// 0 if the answer is none, 1 if the first value is 0, 2 if it is more.
+    pub fn none_zero_or_more(&self) -> u64 {
+        u64::from(self.present) + self.values[0].min(1)
     }
 }

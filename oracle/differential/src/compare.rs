@@ -1,13 +1,13 @@
 //! Comparing the port with what is expected, and counting.
 
-use std::ops::RangeInclusive;
 use std::panic::{AssertUnwindSafe, catch_unwind};
 use std::process::exit;
 
 use crate::answer::Answer;
-use crate::call::{Call, FUNCTIONS};
-use crate::parts::parts;
-use crate::{expected, port};
+use crate::groups::{Call, Group, functions, place};
+
+/// Document 01's numbers go up to 27.
+const NUMBERS: usize = 28;
 
 /// An answer, and the call with its lists as they stand afterwards.
 #[derive(Clone)]
@@ -18,8 +18,8 @@ pub struct Outcome {
 
 pub fn expected(call: &Call) -> Outcome {
     let mut after = call.clone();
-    match catch_unwind(AssertUnwindSafe(|| expected::answer(&mut after))) {
-        Ok(answer) => Outcome { answer, after },
+    match catch_unwind(AssertUnwindSafe(|| after.inner_mut().expect())) {
+        Ok(Ok(answer) | Err(answer)) => Outcome { answer, after },
         Err(_) => fail(&format!(
             "NO EXPECTATION: the original Rust panicked, or 01 has no number for its error\n{}",
             shown(call)
@@ -29,7 +29,7 @@ pub fn expected(call: &Call) -> Outcome {
 
 pub fn got(call: &Call) -> Outcome {
     let mut after = call.clone();
-    let answer = port::answer(&mut after);
+    let answer = after.inner_mut().ask_port();
     Outcome { answer, after }
 }
 
@@ -39,23 +39,24 @@ pub fn difference(call: &Call, expected: &Outcome, got: &Outcome) -> Option<Stri
         return None;
     }
     Some(format!(
-        "DIFFERENCE\n{}expected {:?}, then\n{}got {:?}, then\n{}",
+        "DIFFERENCE\n{}expected {}got {}",
         shown(call),
-        expected.answer,
-        parts(&expected.after).show_lists(),
-        got.answer,
-        parts(&got.after).show_lists(),
+        shown_outcome(expected),
+        shown_outcome(got),
     ))
 }
 
 fn shown(call: &Call) -> String {
-    let parts = parts(call);
-    format!(
-        "{}\n{}{}",
-        call.function(),
-        parts.show_numbers(),
-        parts.show_lists()
-    )
+    let (function, _) = call.function();
+    let mut call = call.clone();
+    let parts = call.inner_mut().parts();
+    format!("{function}\n{}{}", parts.show_numbers(), parts.show_lists())
+}
+
+fn shown_outcome(outcome: &Outcome) -> String {
+    let mut after = outcome.after.clone();
+    let lists = after.inner_mut().parts().show_lists();
+    format!("{:?}, then\n{lists}", outcome.answer)
 }
 
 pub fn fail(message: &str) -> ! {
@@ -63,12 +64,16 @@ pub fn fail(message: &str) -> ! {
     exit(1);
 }
 
-/// How often each function (from 0) was answered with each number.
-pub struct Tally([[u64; 28]; FUNCTIONS.len()]);
+/// How often each function of some groups was answered with each number.
+pub struct Tally<'groups> {
+    groups: &'groups [&'static Group],
+    counts: Vec<[u64; NUMBERS]>,
+}
 
-impl Tally {
-    pub fn new() -> Self {
-        Self([[0; 28]; FUNCTIONS.len()])
+impl<'groups> Tally<'groups> {
+    pub fn new(groups: &'groups [&'static Group]) -> Self {
+        let counts = vec![[0; NUMBERS]; functions(groups).count()];
+        Self { groups, counts }
     }
 
     /// Ends the program at a difference.
@@ -78,16 +83,17 @@ impl Tally {
         if let Some(report) = difference(&call, &expected, &got) {
             fail(&report);
         }
-        self.0[call.code() - 1][expected.answer.number as usize] += 1;
+        let place = place(self.groups, &call).expect("only these groups are compared");
+        self.counts[place][expected.answer.number as usize] += 1;
     }
 
     pub fn comparisons(&self) -> u64 {
-        self.0.iter().flatten().sum()
+        self.counts.iter().flatten().sum()
     }
 
     /// One line for each function that was called.
     pub fn print(&self) {
-        for ((function, numbers), counts) in FUNCTIONS.iter().zip(&self.0) {
+        for ((function, numbers), counts) in functions(self.groups).zip(&self.counts) {
             let total: u64 = counts.iter().sum();
             if total == 0 {
                 continue;
@@ -105,11 +111,10 @@ impl Tally {
 
     /// Ends the program if one of the functions was never accepted, or never
     /// refused with a number it can give: then the cases are too weak.
-    pub fn demand_every_number(&self, codes: RangeInclusive<usize>) {
-        for code in codes {
-            let (function, numbers) = FUNCTIONS[code - 1];
+    pub fn demand_every_number(&self) {
+        for ((function, numbers), counts) in functions(self.groups).zip(&self.counts) {
             for &number in numbers.iter().chain(&[0]) {
-                if self.0[code - 1][number as usize] == 0 {
+                if counts[number as usize] == 0 {
                     fail(&format!("{function}: no case with number {number}"));
                 }
             }

@@ -1,54 +1,142 @@
-//! The groups of calls that can be run alone.
+//! The groups of calls, and one call of any of them.
+//!
+//! The rest of the program knows a group only by the two traits here. A new
+//! group is a module below this one whose `Call` has both, and a line in
+//! `groups!`.
 
-use std::ops::RangeInclusive;
+mod csr32;
+mod layout;
+mod mask;
+mod word;
 
-use crate::call::Call;
+use crate::answer::Answer;
+use crate::parts::Parts;
 use crate::rng::Rng;
-use crate::{csr32, layout, mask, word};
 
-pub struct Group {
-    pub name: &'static str,
-    /// Its functions' codes.
-    pub codes: RangeInclusive<usize>,
-    pub fixed: fn(&mut dyn FnMut(Call)),
-    pub random: fn(&mut Rng) -> Call,
-    /// So many of its random calls come in each round.
-    pub share: usize,
+/// One call of a group, with all that it is handed.
+pub trait GroupCall {
+    /// The function's place in the group's list, from 0.
+    fn place(&self) -> usize;
+
+    fn parts(&mut self) -> Parts<'_>;
+
+    /// The port's answer; the lists are left as the port left them.
+    fn ask_port(&mut self) -> Answer;
+
+    /// The expected answer, or as an error the expected refusal; the lists are
+    /// left as they must stand then.
+    fn expect(&mut self) -> Result<Answer, Answer>;
+
+    /// Of the calls of a function that get the same number, those that are
+    /// told apart here are recorded in equal shares.
+    fn told_apart(&self, answer: Answer) -> u64 {
+        answer.none_zero_or_more()
+    }
 }
 
-pub const GROUPS: [Group; 4] = [
-    Group {
-        name: "word",
-        codes: 1..=8,
-        fixed: word::fixed,
-        random: word::random,
-        share: 1,
-    },
-    Group {
-        name: "csr32",
-        codes: 9..=9,
-        fixed: csr32::fixed,
-        random: csr32::random,
-        share: 1,
-    },
-    Group {
-        name: "mask",
-        codes: 10..=22,
-        fixed: mask::fixed,
-        random: mask::random,
-        share: 4,
-    },
-    Group {
-        name: "layout",
-        codes: 23..=30,
-        fixed: layout::fixed,
-        random: layout::random,
-        share: 1,
-    },
-];
+/// A whole group, by the type of its calls.
+pub trait GroupCalls: GroupCall + Sized {
+    const NAME: &'static str;
+    const FUNCTIONS: &'static [Function];
+    /// So many of its random calls come in each round.
+    const SHARE: usize = 1;
 
-pub fn holds(groups: &[Group], call: &Call) -> bool {
-    groups
+    /// The examples that document 01 gives, with 01's answers.
+    fn examples() -> Vec<(Self, Answer)>;
+
+    fn fixed(run: &mut dyn FnMut(Self));
+
+    fn random(rng: &mut Rng) -> Self;
+
+    /// A few cases at the edges, for the recorded answers.
+    fn edges(_offer: &mut dyn FnMut(Self)) {}
+}
+
+/// A function of the port, and the refusals it can give.
+pub type Function = (&'static str, &'static [u32]);
+
+/// The same as `GroupCalls`, with calls of any group.
+pub struct Group {
+    pub name: &'static str,
+    pub functions: &'static [Function],
+    pub share: usize,
+    pub examples: fn() -> Vec<(Call, Answer)>,
+    pub fixed: fn(&mut dyn FnMut(Call)),
+    pub random: fn(&mut Rng) -> Call,
+    pub edges: fn(&mut dyn FnMut(Call)),
+}
+
+impl Group {
+    const fn of<C: GroupCalls + Into<Call>>() -> Self {
+        Self {
+            name: C::NAME,
+            functions: C::FUNCTIONS,
+            share: C::SHARE,
+            examples: || {
+                let examples = C::examples().into_iter();
+                examples.map(|(call, told)| (call.into(), told)).collect()
+            },
+            fixed: |run| C::fixed(&mut |call| run(call.into())),
+            random: |rng| C::random(rng).into(),
+            edges: |offer| C::edges(&mut |call| offer(call.into())),
+        }
+    }
+}
+
+macro_rules! groups {
+    ($($variant:ident($module:ident)),*) => {
+        pub static GROUPS: &[Group] = &[$(Group::of::<$module::Call>()),*];
+
+        #[derive(Clone, PartialEq)]
+        pub enum Call {
+            $($variant($module::Call)),*
+        }
+
+        $(impl From<$module::Call> for Call {
+            fn from(call: $module::Call) -> Self {
+                Self::$variant(call)
+            }
+        })*
+
+        impl Call {
+            pub fn inner(&self) -> &dyn GroupCall {
+                match self {
+                    $(Self::$variant(call) => call),*
+                }
+            }
+
+            pub fn inner_mut(&mut self) -> &mut dyn GroupCall {
+                match self {
+                    $(Self::$variant(call) => call),*
+                }
+            }
+
+            fn group_name(&self) -> &'static str {
+                match self {
+                    $(Self::$variant(_) => $module::Call::NAME),*
+                }
+            }
+
+            pub fn function(&self) -> Function {
+                match self {
+                    $(Self::$variant(call) => $module::Call::FUNCTIONS[call.place()]),*
+                }
+            }
+        }
+    };
+}
+
+groups!(Word(word), Csr32(csr32), Mask(mask), Layout(layout));
+
+/// The functions of some groups, one after the other.
+pub fn functions(groups: &[&'static Group]) -> impl Iterator<Item = &'static Function> {
+    groups.iter().flat_map(|group| group.functions)
+}
+
+/// Where the call's function stands among them, from 0.
+pub fn place(groups: &[&'static Group], call: &Call) -> Option<usize> {
+    let own = groups
         .iter()
-        .any(|group| group.codes.contains(&call.code()))
+        .position(|group| group.name == call.group_name())?;
+    Some(functions(&groups[..own]).count() + call.inner().place())
 }

@@ -10,47 +10,51 @@
 //! ```
 
 mod answer;
-mod call;
 mod compare;
-mod csr32;
 mod examples;
 mod expected;
 mod groups;
-mod layout;
-mod mask;
 mod parts;
 mod port;
 mod record;
 mod rng;
 mod self_test;
-mod word;
 
 use std::env;
 use std::path::Path;
-use std::slice;
 use std::time::{Duration, Instant, SystemTime, UNIX_EPOCH};
 
 use crate::compare::{Tally, fail};
-use crate::groups::{GROUPS, Group, holds};
-use crate::record::Format;
+use crate::groups::{GROUPS, Group, place};
+use crate::record::{FORMATS, Format};
 use crate::rng::Rng;
-
-const USAGE: &str = "usage: differential \
-    [only GROUP | soak SECONDS [SEED] | record FOLDER | record-layout FOLDER | self-test]";
 
 fn main() {
     let arguments: Vec<String> = env::args().skip(1).collect();
     let arguments: Vec<&str> = arguments.iter().map(String::as_str).collect();
     match arguments.as_slice() {
-        [] => whole_run(&GROUPS),
-        ["only", name] => whole_run(slice::from_ref(group(name))),
+        [] => whole_run(&all_groups()),
+        ["only", name] => whole_run(&[group(name)]),
         ["soak", seconds] => soak(number(seconds), seed_from_clock()),
         ["soak", seconds, seed] => soak(number(seconds), number(seed)),
-        ["record", folder] => record(&record::FOUNDATIONS, folder),
-        ["record-layout", folder] => record(&record::LAYOUT, folder),
         ["self-test"] => self_test::run(&record::all_calls()),
-        _ => fail(USAGE),
+        [argument, folder] => record(format(argument), folder),
+        _ => usage(),
     }
+}
+
+fn usage() -> ! {
+    let records: String = FORMATS
+        .iter()
+        .map(|format| format!(" | {} FOLDER", format.argument))
+        .collect();
+    fail(&format!(
+        "usage: differential [only GROUP | soak SECONDS [SEED]{records} | self-test]"
+    ))
+}
+
+fn all_groups() -> Vec<&'static Group> {
+    GROUPS.iter().collect()
 }
 
 fn number(text: &str) -> u64 {
@@ -67,17 +71,24 @@ fn group(name: &str) -> &'static Group {
     }
 }
 
+fn format(argument: &str) -> &'static Format {
+    match FORMATS.iter().find(|format| format.argument == argument) {
+        Some(format) => format,
+        None => usage(),
+    }
+}
+
 fn record(format: &Format, folder: &str) {
     if let Err(error) = record::write(format, Path::new(folder)) {
         fail(&format!("{folder}: {error}"));
     }
 }
 
-fn whole_run(groups: &[Group]) {
-    let mut tally = Tally::new();
+fn whole_run(groups: &[&'static Group]) {
+    let mut tally = Tally::new(groups);
     examples::run(groups, &mut tally);
     let mut recorded = record::all_calls();
-    recorded.retain(|call| holds(groups, call));
+    recorded.retain(|call| place(groups, call).is_some());
     self_test::run(&recorded);
     for call in recorded {
         tally.compare(call);
@@ -91,9 +102,7 @@ fn whole_run(groups: &[Group]) {
             random_round(groups, &mut rng, &mut tally);
         }
     }
-    for group in groups {
-        tally.demand_every_number(group.codes.clone());
-    }
+    tally.demand_every_number();
     finish(&tally);
 }
 
@@ -101,16 +110,17 @@ fn soak(seconds: u64, seed: u64) {
     println!("soak: {seconds} seconds from seed {seed}");
     let start = Instant::now();
     let mut rng = Rng::new(seed);
-    let mut tally = Tally::new();
+    let groups = all_groups();
+    let mut tally = Tally::new(&groups);
     while start.elapsed() < Duration::from_secs(seconds) {
         for _ in 0..1_000 {
-            random_round(&GROUPS, &mut rng, &mut tally);
+            random_round(&groups, &mut rng, &mut tally);
         }
     }
     finish(&tally);
 }
 
-fn random_round(groups: &[Group], rng: &mut Rng, tally: &mut Tally) {
+fn random_round(groups: &[&Group], rng: &mut Rng, tally: &mut Tally) {
     for group in groups {
         for _ in 0..group.share {
             tally.compare((group.random)(rng));

@@ -1,163 +1,46 @@
 //! A call taken apart into named numbers and lists, in the order in which it
 //! is printed and recorded.
 
-use crate::call::{Blocks, Call, Layout, Mask, Matrix, Question, Word};
-
-pub struct Parts {
+pub struct Parts<'call> {
     pub numbers: Vec<(&'static str, u64)>,
-    pub lists: Vec<(&'static str, Vec<u64>)>,
-    /// Which list the call may write, counted from 0.
-    pub written: Option<usize>,
+    pub lists: Vec<(&'static str, List<'call>)>,
+    /// Which lists the call may write, counted from 0.
+    pub written: Vec<usize>,
 }
 
-pub fn parts(call: &Call) -> Parts {
-    match call {
-        Call::WordBits => new(&[], vec![], None),
-        Call::WordIndex(word)
-        | Call::WordBaseCol(word)
-        | Call::WordMask(word)
-        | Call::WordPopcount(word) => of_word(word, None),
-        Call::WordContainsOffset(word, offset) | Call::WordRank(word, offset) => {
-            of_word(word, Some(("offset", *offset)))
-        }
-        Call::WordSelect(word, ordinal) => of_word(word, Some(("ordinal", *ordinal))),
-        Call::Csr32Validate(matrix) => of_matrix(matrix),
-        Call::MaskCheck(mask) | Call::MaskIsEmpty(mask) | Call::MaskCountOnes(mask) => {
-            of_mask(mask, &[], None)
-        }
-        Call::MaskNew { len, out } => {
-            new(&[("len", *len as u64)], vec![("out", out.clone())], Some(0))
-        }
-        Call::MaskFromIndices { len, indices, out } => new(
-            &[("len", *len as u64)],
-            vec![("out", out.clone()), ("indices", indices.clone())],
-            Some(0),
-        ),
-        Call::MaskSet { mask, index, value } => of_mask(
-            mask,
-            &[("index", *index), ("value", u64::from(*value))],
-            Some(0),
-        ),
-        Call::MaskContains { mask, index } => of_mask(mask, &[("index", *index)], None),
-        Call::MaskUnionAssign(mask, other)
-        | Call::MaskIntersectAssign(mask, other)
-        | Call::MaskAndNotAssign(mask, other) => of_two(mask, other, Some(0)),
-        Call::MaskIntersects(mask, other) => of_two(mask, other, None),
-        Call::MaskIndices { mask, out } => new(
-            &[("len", mask.len as u64)],
-            vec![("words", mask.words.clone()), ("out", out.clone())],
-            Some(1),
-        ),
-        Call::MaskOrWord {
-            mask,
-            word_index,
-            bits,
-        } => of_mask(
-            mask,
-            &[("word_index", *word_index), ("bits", *bits)],
-            Some(0),
-        ),
-        Call::KindOf(code) => new(&[("code", u64::from(*code))], vec![], None),
-        Call::LayoutNew { blocks, out } => of_layout(blocks, &[], &[], Some(out)),
-        Call::Layout(layout, question) => of_question(layout, question),
-    }
+pub enum List<'call> {
+    U8(&'call mut [u8]),
+    U32(&'call mut [u32]),
+    U64(&'call mut [u64]),
+    F64(&'call mut [f64]),
 }
 
-fn new(
-    numbers: &[(&'static str, u64)],
-    lists: Vec<(&'static str, Vec<u64>)>,
-    written: Option<usize>,
-) -> Parts {
-    Parts {
-        numbers: numbers.to_vec(),
-        lists,
-        written,
-    }
-}
-
-fn of_word(word: &Word, operand: Option<(&'static str, u64)>) -> Parts {
-    let mut numbers = vec![
-        ("word_index", u64::from(word.word_index)),
-        ("mask", word.mask),
-    ];
-    numbers.extend(operand);
-    new(&numbers, vec![], None)
-}
-
-fn of_matrix(matrix: &Matrix) -> Parts {
-    let bits = matrix.values.iter().map(|value| value.to_bits()).collect();
-    new(
-        &[
-            ("nrows", matrix.nrows as u64),
-            ("ncols", matrix.ncols as u64),
-        ],
-        vec![
-            ("row_ptr", widened(&matrix.row_ptr)),
-            ("col_idx", widened(&matrix.col_idx)),
-            ("values (bits)", bits),
-        ],
-        None,
-    )
-}
-
-fn of_mask(mask: &Mask, operands: &[(&'static str, u64)], written: Option<usize>) -> Parts {
-    let mut numbers = vec![("len", mask.len as u64)];
-    numbers.extend(operands);
-    new(&numbers, vec![("words", mask.words.clone())], written)
-}
-
-fn of_two(mask: &Mask, other: &Mask, written: Option<usize>) -> Parts {
-    new(
-        &[("len", mask.len as u64), ("other_len", other.len as u64)],
-        vec![
-            ("words", mask.words.clone()),
-            ("other", other.words.clone()),
-        ],
-        written,
-    )
-}
-
-fn of_question(layout: &Layout, question: &Question) -> Parts {
-    let on = |numbers: &[(&'static str, u64)], out: Option<&Vec<u64>>| {
-        of_layout(&layout.blocks, &layout.offsets, numbers, out)
-    };
-    match question {
-        Question::Check | Question::TotalDofs => on(&[], None),
-        Question::BlockRange(index) => on(&[("index", *index)], None),
-        Question::Locate(dof) => on(&[("dof", *dof)], None),
-        Question::ValidateSquareMatrixSize { nrows, ncols } => {
-            on(&[("nrows", *nrows as u64), ("ncols", *ncols as u64)], None)
-        }
-        Question::FieldMask { field_id, out } => {
-            on(&[("field_id", u64::from(*field_id))], Some(out))
+impl<'call> Parts<'call> {
+    pub fn new() -> Self {
+        Self {
+            numbers: vec![],
+            lists: vec![],
+            written: vec![],
         }
     }
-}
 
-/// The written list is always the sixth, so a layout that is still to be built
-/// has an empty list of offsets here.
-fn of_layout(
-    blocks: &Blocks,
-    offsets: &[u64],
-    numbers: &[(&'static str, u64)],
-    out: Option<&Vec<u64>>,
-) -> Parts {
-    let mut lists = vec![
-        ("kinds", widened(&blocks.kinds)),
-        ("ids", blocks.ids.clone()),
-        ("fields", widened(&blocks.fields)),
-        ("components", widened(&blocks.components)),
-        ("offsets", offsets.to_vec()),
-    ];
-    lists.extend(out.map(|out| ("out", out.clone())));
-    new(numbers, lists, out.map(|_| 5))
-}
+    pub fn number(mut self, name: &'static str, number: u64) -> Self {
+        self.numbers.push((name, number));
+        self
+    }
 
-fn widened<T: Copy + Into<u64>>(list: &[T]) -> Vec<u64> {
-    list.iter().map(|&number| number.into()).collect()
-}
+    /// A list that the call only reads.
+    pub fn read(mut self, name: &'static str, list: List<'call>) -> Self {
+        self.lists.push((name, list));
+        self
+    }
 
-impl Parts {
+    /// A list that the call may write.
+    pub fn written(mut self, name: &'static str, list: List<'call>) -> Self {
+        self.written.push(self.lists.len());
+        self.read(name, list)
+    }
+
     pub fn show_numbers(&self) -> String {
         self.numbers
             .iter()
@@ -168,8 +51,40 @@ impl Parts {
     pub fn show_lists(&self) -> String {
         self.lists
             .iter()
-            .map(|(name, list)| format!("  {name} = {}\n", shown(list)))
+            .map(|(name, list)| format!("  {name} = {}\n", shown(&list.widened())))
             .collect()
+    }
+}
+
+impl List<'_> {
+    pub fn len(&self) -> usize {
+        match self {
+            List::U8(list) => list.len(),
+            List::U32(list) => list.len(),
+            List::U64(list) => list.len(),
+            List::F64(list) => list.len(),
+        }
+    }
+
+    /// The elements as 64 bits each.
+    pub fn widened(&self) -> Vec<u64> {
+        match self {
+            List::U8(list) => list.iter().map(|&element| element.into()).collect(),
+            List::U32(list) => list.iter().map(|&element| element.into()).collect(),
+            List::U64(list) => list.to_vec(),
+            List::F64(list) => list.iter().map(|element| element.to_bits()).collect(),
+        }
+    }
+
+    /// Changes one bit of one element, of an f64 the sign: 0.0 and -0.0 must be
+    /// told apart.
+    pub fn spoil(&mut self, place: usize) {
+        match self {
+            List::U8(list) => list[place] ^= 1,
+            List::U32(list) => list[place] ^= 1,
+            List::U64(list) => list[place] ^= 1 << 63,
+            List::F64(list) => list[place] = -list[place],
+        }
     }
 }
 

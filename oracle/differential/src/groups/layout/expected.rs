@@ -7,33 +7,43 @@
 
 use hybit_original::{DofBlock, DofEntityKind, FieldAwareDofLayout};
 
-use super::{SIDE_LIMIT, refusal, write};
+use super::{Blocks, Call, Layout, Question};
 use crate::answer::Answer;
-use crate::call::{Blocks, Layout, Question};
+use crate::expected::{SIDE_LIMIT, refusal, write};
+
+pub fn answer(call: &mut Call) -> Result<Answer, Answer> {
+    match call {
+        Call::KindOf(code) => Ok(Answer::told(kind(*code)? as u64)),
+        Call::New { blocks, out } => new(blocks, out),
+        Call::Asked(layout, question) => asked(layout, question),
+    }
+}
 
 /// 17 stands as added in 01, since a kind is a byte there; the Rust refuses
 /// the same codes where it makes a kind of one.
-pub fn kind(code: u32) -> Result<DofEntityKind, Answer> {
+fn kind(code: u32) -> Result<DofEntityKind, Answer> {
     DofEntityKind::from_code(code).map_err(refusal)
 }
 
-pub fn new(blocks: &Blocks, out: &mut [u64]) -> Result<Answer, Answer> {
+fn new(blocks: &Blocks, out: &mut [u64]) -> Result<Answer, Answer> {
     let layout = accepted_blocks(blocks)?;
     write(&offsets(&layout), out)?;
     Ok(Answer::told(layout.total_dofs()))
 }
 
-pub fn asked(layout: &Layout, question: &mut Question) -> Result<Answer, Answer> {
+fn asked(layout: &Layout, question: &mut Question) -> Result<Answer, Answer> {
     let rust = accepted_layout(layout)?;
     match question {
         Question::Check => Ok(Answer::done()),
         Question::TotalDofs => Ok(Answer::told(rust.total_dofs())),
         Question::BlockRange(index) => Ok(match rust.block_range(*index as usize) {
-            Some(range) => Answer::pair(range.start, range.end),
+            Some(range) => Answer::told_all(&[range.start, range.end]),
             None => Answer::none(),
         }),
         Question::Locate(dof) => Ok(match rust.locate(*dof) {
-            Some(address) => Answer::pair(address.block_index as u64, u64::from(address.component)),
+            Some(address) => {
+                Answer::told_all(&[address.block_index as u64, u64::from(address.component)])
+            }
             None => Answer::none(),
         }),
         Question::ValidateSquareMatrixSize { nrows, ncols } => {

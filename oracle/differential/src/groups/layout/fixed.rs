@@ -1,8 +1,8 @@
 //! Layouts at the edges: kinds, limits, word borders, orders, large ones.
 
+use super::cases::{Block, KINDS, built, numbered};
 use super::orders::{ORDERS, Order, make_near_twin, make_twin, ordered, resize};
-use super::{Block, KINDS, built, numbered, offsets, questions};
-use crate::call::{Call, Layout};
+use super::{Call, Layout, offsets, questions};
 use crate::expected::SIDE_LIMIT;
 use crate::rng::Rng;
 

@@ -1,6 +1,6 @@
 //! Blocks in the orders in which callers number them.
 
-use super::{Block, KINDS};
+use super::cases::{Block, KINDS};
 use crate::rng::Rng;
 
 #[derive(Clone, Copy)]

@@ -1,33 +1,18 @@
-//! Cases for layouts.
+//! What the cases share, and those at the edges.
 
-mod fixed;
-mod offsets;
-mod orders;
-mod questions;
-mod random;
-mod small;
-
-pub use random::random;
-
-use crate::call::{Blocks, Call, Layout, Question};
+use super::{Blocks, Call, Layout, Question, offsets, questions, small};
 
 /// The codes of all kinds.
-const KINDS: [u8; 7] = [1, 2, 3, 4, 5, 6, 255];
+pub const KINDS: [u8; 7] = [1, 2, 3, 4, 5, 6, 255];
 
 #[derive(Clone, Copy)]
-struct Block {
-    kind: u8,
-    id: u64,
-    field: u32,
-    components: u32,
+pub struct Block {
+    pub kind: u8,
+    pub id: u64,
+    pub field: u32,
+    pub components: u32,
 }
 
-pub fn fixed(run: &mut dyn FnMut(Call)) {
-    small::run(run);
-    fixed::run(run);
-}
-
-/// A few cases at the edges, for the recorded answers.
 pub fn edges(offer: &mut dyn FnMut(Call)) {
     for code in KINDS.map(u32::from).into_iter().chain([0, 7, 254, 257]) {
         offer(Call::KindOf(code));
@@ -37,7 +22,7 @@ pub fn edges(offer: &mut dyn FnMut(Call)) {
         let layout = built(&numbered(components));
         questions::one_each(&layout, offer);
         for dof in [0, 1, 62, 63, 64, 65, 129, 130, u64::MAX] {
-            offer(Call::Layout(layout.clone(), Question::Locate(dof)));
+            offer(Call::Asked(layout.clone(), Question::Locate(dof)));
         }
         for offsets in offsets::damaged(&layout.offsets) {
             let blocks = layout.blocks.clone();
@@ -46,7 +31,7 @@ pub fn edges(offer: &mut dyn FnMut(Call)) {
     }
 }
 
-fn blocks(list: &[Block]) -> Blocks {
+pub fn blocks(list: &[Block]) -> Blocks {
     Blocks {
         kinds: list.iter().map(|block| block.kind).collect(),
         ids: list.iter().map(|block| block.id).collect(),
@@ -56,7 +41,7 @@ fn blocks(list: &[Block]) -> Blocks {
 }
 
 /// The blocks with their running totals, whether they are right or not.
-fn built(list: &[Block]) -> Layout {
+pub fn built(list: &[Block]) -> Layout {
     let mut total = 0;
     let mut offsets = vec![0];
     for block in list {
@@ -70,7 +55,7 @@ fn built(list: &[Block]) -> Layout {
 }
 
 /// Blocks of kind 1 with ids by position, of fields 0, 1, 0, 1 and so on.
-fn numbered(components: &[u32]) -> Vec<Block> {
+pub fn numbered(components: &[u32]) -> Vec<Block> {
     (0..)
         .zip(components)
         .map(|(id, &components)| Block {

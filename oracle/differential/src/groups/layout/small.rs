@@ -1,7 +1,7 @@
 //! Small layouts, all of a kind.
 
-use super::{Block, blocks, built, numbered, questions};
-use crate::call::{Call, Layout, Question};
+use super::cases::{Block, blocks, built, numbered};
+use super::{Call, Layout, Question, questions};
 use crate::expected::SIDE_LIMIT;
 
 pub fn run(run: &mut dyn FnMut(Call)) {

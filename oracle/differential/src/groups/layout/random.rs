@@ -1,9 +1,9 @@
 //! Random cases.
 
+use super::cases::{Block, KINDS, built};
 use super::orders::{ORDERS, make_near_twin, make_twin, ordered, resize};
 use super::questions::{FAR, mask_words, near, total};
-use super::{Block, KINDS, built, offsets};
-use crate::call::{Blocks, Call, Layout, Question};
+use super::{Blocks, Call, Layout, Question, offsets};
 use crate::expected::SIDE_LIMIT;
 use crate::rng::Rng;
 
@@ -15,13 +15,13 @@ pub fn random(rng: &mut Rng) -> Call {
     let layout = random_layout(rng);
     if rng.once_in(6) {
         let needed = layout.blocks.kinds.len() + 1;
-        return Call::LayoutNew {
+        return Call::New {
             out: rng.room(needed),
             blocks: layout.blocks,
         };
     }
     let question = random_question(rng, &layout);
-    Call::Layout(layout, question)
+    Call::Asked(layout, question)
 }
 
 fn random_code(rng: &mut Rng) -> u32 {

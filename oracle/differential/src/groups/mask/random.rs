@@ -1,8 +1,8 @@
 //! Random cases.
 
-use super::{FAR, indexes, members, of_index, random_right};
-use crate::call::{Call, Mask};
-use crate::expected::{SIDE_LIMIT, words_needed};
+use super::cases::{FAR, indexes, members, of_index, random_right};
+use super::{Call, Mask, words_needed};
+use crate::expected::SIDE_LIMIT;
 use crate::rng::Rng;
 
 /// One call at random; a third of the masks are faulty.
@@ -10,43 +10,36 @@ pub fn random(rng: &mut Rng) -> Call {
     let len = random_length(rng);
     let mask = random_mask(rng, len);
     match rng.below(13) {
-        0 => Call::MaskCheck(mask),
-        1 => Call::MaskNew {
+        0 => Call::Check(mask),
+        1 => Call::New {
             len: mask.len,
             out: rng.room(words_needed(len)),
         },
-        2 => Call::MaskFromIndices {
+        2 => Call::FromIndices {
             len: mask.len,
             indices: random_indices(rng, len),
             out: rng.room(words_needed(len)),
         },
-        3 => Call::MaskIsEmpty(mask),
-        4 => Call::MaskCountOnes(mask),
-        5 => Call::MaskSet {
+        3 => Call::IsEmpty(mask),
+        4 => Call::CountOnes(mask),
+        5 => Call::Set {
             index: random_index(rng, len),
             value: rng.once_in(2),
             mask,
         },
-        6 => Call::MaskContains {
+        6 => Call::Contains {
             index: random_index(rng, len),
             mask,
         },
-        7 => Call::MaskUnionAssign(mask, random_other(rng, len)),
-        8 => Call::MaskIntersectAssign(mask, random_other(rng, len)),
-        9 => Call::MaskAndNotAssign(mask, random_other(rng, len)),
-        10 => Call::MaskIntersects(mask, random_other(rng, len)),
-        11 => Call::MaskIndices {
+        7 => Call::UnionAssign(mask, random_other(rng, len)),
+        8 => Call::IntersectAssign(mask, random_other(rng, len)),
+        9 => Call::AndNotAssign(mask, random_other(rng, len)),
+        10 => Call::Intersects(mask, random_other(rng, len)),
+        11 => Call::Indices {
             out: rng.room(members(&mask)),
             mask,
         },
-        _ => Call::MaskOrWord {
-            word_index: match rng.below(6) {
-                0 => rng.pick(&FAR),
-                _ => rng.below(mask.words.len() + 2) as u64,
-            },
-            bits: rng.word(),
-            mask,
-        },
+        _ => random_or_word(rng, mask),
     }
 }
 
@@ -97,6 +90,17 @@ fn random_other(rng: &mut Rng, len: usize) -> Mask {
         _ => len,
     };
     random_mask(rng, other_len)
+}
+
+fn random_or_word(rng: &mut Rng, mask: Mask) -> Call {
+    Call::OrWord {
+        word_index: match rng.below(6) {
+            0 => rng.pick(&FAR),
+            _ => rng.below(mask.words.len() + 2) as u64,
+        },
+        bits: rng.word(),
+        mask,
+    }
 }
 
 fn random_index(rng: &mut Rng, len: usize) -> u64 {

@@ -1,7 +1,8 @@
 //! The calls on one layout.
 
-use crate::call::{Call, Layout, Question};
-use crate::expected::{SIDE_LIMIT, words_needed};
+use super::{Call, Layout, Question};
+use crate::expected::SIDE_LIMIT;
+use crate::groups::mask::words_needed;
 use crate::rng::Rng;
 
 /// Numbers far past every layout.
@@ -71,7 +72,7 @@ pub fn one(layout: &Layout, turn: usize, run: &mut dyn FnMut(Call)) {
         _ => {
             let blocks = layout.blocks.clone();
             let out = vec![77; blocks.kinds.len() + 1];
-            return run(Call::LayoutNew { blocks, out });
+            return run(Call::New { blocks, out });
         }
     };
     ask(layout, question, run);
@@ -84,14 +85,14 @@ pub fn mask(layout: &Layout, field_id: u32, run: &mut dyn FnMut(Call)) {
 }
 
 pub fn ask(layout: &Layout, question: Question, run: &mut dyn FnMut(Call)) {
-    run(Call::Layout(layout.clone(), question));
+    run(Call::Asked(layout.clone(), question));
 }
 
 /// Room for none, one short, exactly enough, and more.
 fn new(layout: &Layout, run: &mut dyn FnMut(Call)) {
     let needed = layout.blocks.kinds.len() + 1;
     for room in [0, needed - 1, needed, needed + 1, needed + 5] {
-        run(Call::LayoutNew {
+        run(Call::New {
             blocks: layout.blocks.clone(),
             out: vec![77; room],
         });

@@ -1,24 +1,24 @@
-//! Cases for the topology word.
+//! Fixed and random cases.
 
-use crate::call::{Call, Word};
+use super::{Call, Word};
 use crate::rng::Rng;
 
 const FAR_OPERANDS: [u64; 4] = [1 << 32, (1 << 32) + 1, 1 << 63, u64::MAX];
 const WORD_INDEXES: [u32; 3] = [0, 1, u32::MAX];
 
 pub fn fixed(run: &mut dyn FnMut(Call)) {
-    run(Call::WordBits);
+    run(Call::Bits);
     for mask in masks() {
         for word_index in WORD_INDEXES {
             let word = Word { word_index, mask };
-            run(Call::WordIndex(word));
-            run(Call::WordBaseCol(word));
-            run(Call::WordMask(word));
-            run(Call::WordPopcount(word));
+            run(Call::Index(word));
+            run(Call::BaseCol(word));
+            run(Call::Mask(word));
+            run(Call::Popcount(word));
             for operand in (0..=70).chain(FAR_OPERANDS) {
-                run(Call::WordContainsOffset(word, operand));
-                run(Call::WordRank(word, operand));
-                run(Call::WordSelect(word, operand));
+                run(Call::ContainsOffset(word, operand));
+                run(Call::Rank(word, operand));
+                run(Call::Select(word, operand));
             }
         }
     }
@@ -45,25 +45,22 @@ fn masks() -> Vec<u64> {
     masks
 }
 
-/// A few cases at the edges, for the recorded answers.
-pub fn edges() -> Vec<Call> {
-    let mut calls = vec![];
+pub fn edges(offer: &mut dyn FnMut(Call)) {
     for mask in [0, 1, 22, 1 << 63, u64::MAX] {
         let word = Word {
             word_index: u32::MAX,
             mask,
         };
-        calls.push(Call::WordIndex(word));
-        calls.push(Call::WordBaseCol(word));
-        calls.push(Call::WordMask(word));
-        calls.push(Call::WordPopcount(word));
+        offer(Call::Index(word));
+        offer(Call::BaseCol(word));
+        offer(Call::Mask(word));
+        offer(Call::Popcount(word));
         for operand in [0, 1, 63, 64, 65, u64::MAX] {
-            calls.push(Call::WordContainsOffset(word, operand));
-            calls.push(Call::WordRank(word, operand));
-            calls.push(Call::WordSelect(word, operand));
+            offer(Call::ContainsOffset(word, operand));
+            offer(Call::Rank(word, operand));
+            offer(Call::Select(word, operand));
         }
     }
-    calls
 }
 
 pub fn random(rng: &mut Rng) -> Call {
@@ -82,12 +79,12 @@ pub fn random(rng: &mut Rng) -> Call {
         _ => rng.below(70) as u64,
     };
     match rng.below(13) {
-        0 => Call::WordIndex(word),
-        1 => Call::WordBaseCol(word),
-        2 => Call::WordMask(word),
-        3 => Call::WordPopcount(word),
-        4..7 => Call::WordContainsOffset(word, operand),
-        7..10 => Call::WordRank(word, operand),
-        _ => Call::WordSelect(word, operand),
+        0 => Call::Index(word),
+        1 => Call::BaseCol(word),
+        2 => Call::Mask(word),
+        3 => Call::Popcount(word),
+        4..7 => Call::ContainsOffset(word, operand),
+        7..10 => Call::Rank(word, operand),
+        _ => Call::Select(word, operand),
     }
 }

@@ -1,26 +1,17 @@
-//! Cases for masks.
+//! What the cases share, and those at the edges.
 
-mod fixed;
-mod random;
-
-pub use fixed::fixed;
-pub use random::random;
-
-use crate::call::{Call, Mask};
-use crate::expected::words_needed;
+use super::{Call, Mask, words_needed};
 use crate::rng::Rng;
 
 /// Indices far past every length.
-const FAR: [u64; 4] = [1 << 32, 1 << 58, 1 << 63, u64::MAX];
+pub const FAR: [u64; 4] = [1 << 32, 1 << 58, 1 << 63, u64::MAX];
 
-/// A few cases at the edges, for the recorded answers.
-pub fn edges() -> Vec<Call> {
-    let mut calls = vec![];
+pub fn edges(offer: &mut dyn FnMut(Call)) {
     for len in [1, 63, 65, 128] {
         let mask = of_index(len, len - 1);
         let words = mask.words.len() as u64;
         for word_index in [0, words - 1, words, u64::MAX] {
-            calls.push(Call::MaskOrWord {
+            offer(Call::OrWord {
                 mask: mask.clone(),
                 word_index,
                 bits: u64::MAX,
@@ -32,26 +23,25 @@ pub fn edges() -> Vec<Call> {
         {
             let mut indices = vec![0, len as u64 - 1, 0];
             indices.insert((place + len) % 4, index);
-            calls.push(Call::MaskSet {
+            offer(Call::Set {
                 mask: mask.clone(),
                 index,
                 value: index == 0,
             });
-            calls.push(Call::MaskContains {
+            offer(Call::Contains {
                 mask: mask.clone(),
                 index,
             });
-            calls.push(Call::MaskFromIndices {
+            offer(Call::FromIndices {
                 len,
                 indices,
                 out: vec![77; words as usize + 1],
             });
         }
     }
-    calls
 }
 
-fn full(len: usize) -> Mask {
+pub fn full(len: usize) -> Mask {
     let mut mask = Mask {
         len,
         words: vec![u64::MAX; words_needed(len)],
@@ -60,7 +50,7 @@ fn full(len: usize) -> Mask {
     mask
 }
 
-fn random_right(rng: &mut Rng, len: usize) -> Mask {
+pub fn random_right(rng: &mut Rng, len: usize) -> Mask {
     let mut mask = Mask {
         len,
         words: rng.words(words_needed(len)),
@@ -69,7 +59,7 @@ fn random_right(rng: &mut Rng, len: usize) -> Mask {
     mask
 }
 
-fn of_index(len: usize, index: usize) -> Mask {
+pub fn of_index(len: usize, index: usize) -> Mask {
     let mut words = vec![0; words_needed(len)];
     words[index / 64] = 1 << (index % 64);
     Mask { len, words }
@@ -82,7 +72,7 @@ fn clear_past(mask: &mut Mask) {
     }
 }
 
-fn indexes(len: usize) -> Vec<u64> {
+pub fn indexes(len: usize) -> Vec<u64> {
     let len = len as u64;
     let mut indexes = vec![
         0,
@@ -102,9 +92,17 @@ fn indexes(len: usize) -> Vec<u64> {
     indexes
 }
 
-fn members(mask: &Mask) -> usize {
+pub fn members(mask: &Mask) -> usize {
     mask.words
         .iter()
         .map(|word| word.count_ones() as usize)
         .sum()
+}
+
+/// Every call on two masks.
+pub fn on_two(mask: &Mask, other: &Mask, run: &mut dyn FnMut(Call)) {
+    run(Call::UnionAssign(mask.clone(), other.clone()));
+    run(Call::IntersectAssign(mask.clone(), other.clone()));
+    run(Call::AndNotAssign(mask.clone(), other.clone()));
+    run(Call::Intersects(mask.clone(), other.clone()));
 }

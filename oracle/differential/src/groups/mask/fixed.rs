@@ -1,8 +1,8 @@
-//! Fixed cases: all small masks, and large ones at the edges.
+//! Masks of many lengths at the edges.
 
-use super::{FAR, full, indexes, members, of_index, random_right};
-use crate::call::{Call, Mask};
-use crate::expected::{SIDE_LIMIT, words_needed};
+use super::cases::{full, indexes, members, of_index, on_two, random_right};
+use super::{Call, Mask, words_needed};
+use crate::expected::SIDE_LIMIT;
 use crate::rng::Rng;
 
 const LENGTHS: [usize; 15] = [
@@ -23,10 +23,7 @@ const LENGTHS: [usize; 15] = [
     usize::MAX,
 ];
 
-pub fn fixed(run: &mut dyn FnMut(Call)) {
-    small_masks(run);
-    small_pairs(run);
-    small_index_lists(run);
+pub fn run(run: &mut dyn FnMut(Call)) {
     let mut rng = Rng::new(2);
     for len in LENGTHS {
         for mask in masks(&mut rng, len) {
@@ -36,113 +33,6 @@ pub fn fixed(run: &mut dyn FnMut(Call)) {
         pairs(&mut rng, len, run);
         new_masks(&mut rng, len, run);
         index_lists(&mut rng, len, run);
-    }
-}
-
-/// Every mask of up to 6 nodes, and some with bits past the length or with a
-/// word too few or too many, with every index near the length and the word.
-fn small_masks(run: &mut dyn FnMut(Call)) {
-    for len in 0..=6 {
-        for mask in small(len) {
-            for index in (0..=len as u64 + 1).chain([63, 64, 65]).chain(FAR) {
-                run(Call::MaskContains {
-                    mask: mask.clone(),
-                    index,
-                });
-                for value in [false, true] {
-                    run(Call::MaskSet {
-                        mask: mask.clone(),
-                        index,
-                        value,
-                    });
-                }
-                for bits in [0, 1, 1 << len, 1 << 63, u64::MAX] {
-                    run(Call::MaskOrWord {
-                        mask: mask.clone(),
-                        word_index: index,
-                        bits,
-                    });
-                }
-            }
-            for bits in 0..1 << (len + 1) {
-                run(Call::MaskOrWord {
-                    mask: mask.clone(),
-                    word_index: 0,
-                    bits,
-                });
-            }
-            run(Call::MaskCheck(mask.clone()));
-            run(Call::MaskIsEmpty(mask.clone()));
-            run(Call::MaskCountOnes(mask.clone()));
-            for room in 0..=len + 2 {
-                run(Call::MaskIndices {
-                    mask: mask.clone(),
-                    out: vec![77; room],
-                });
-            }
-        }
-    }
-}
-
-fn small(len: usize) -> Vec<Mask> {
-    let mut masks = vec![];
-    for bits in 0..1 << len {
-        for stray in [0, 1 << len, 1 << 63] {
-            masks.push(Mask {
-                len,
-                words: vec![bits | stray],
-            });
-        }
-        masks.push(Mask {
-            len,
-            words: vec![bits, 0],
-        });
-    }
-    for words in [vec![], vec![u64::MAX], vec![0, 1], vec![0, 0, 0]] {
-        masks.push(Mask { len, words });
-    }
-    masks
-}
-
-/// Every pair of masks of up to 6 nodes, and every pair of the faulty ones.
-fn small_pairs(run: &mut dyn FnMut(Call)) {
-    for len in 0..=6 {
-        let masks = small(len);
-        for mask in &masks {
-            for other in &masks {
-                on_two(mask, other, run);
-            }
-            for other_len in [len + 1, len + 64, SIDE_LIMIT + 1, usize::MAX] {
-                let mut other = mask.clone();
-                other.len = other_len;
-                on_two(mask, &other, run);
-                on_two(&other, mask, run);
-            }
-        }
-    }
-}
-
-/// Every list of up to 3 indices near the length, for masks of up to 4 nodes.
-fn small_index_lists(run: &mut dyn FnMut(Call)) {
-    for len in 0..=4 {
-        let choice: Vec<u64> = (0..=len as u64 + 1).chain([63, 64, u64::MAX]).collect();
-        let mut lists = vec![vec![]];
-        for &a in &choice {
-            lists.push(vec![a]);
-            for &b in &choice {
-                lists.push(vec![a, b]);
-                lists.extend(choice.iter().map(|&c| vec![a, b, c]));
-            }
-        }
-        for indices in lists {
-            for room in 0..=2 {
-                run(Call::MaskFromIndices {
-                    len,
-                    indices: indices.clone(),
-                    out: vec![77; room],
-                });
-            }
-        }
     }
 }
 
@@ -188,16 +78,16 @@ fn masks(rng: &mut Rng, len: usize) -> Vec<Mask> {
 
 /// Every call on one mask, with operands near the edges.
 fn on_one(rng: &mut Rng, mask: &Mask, run: &mut dyn FnMut(Call)) {
-    run(Call::MaskCheck(mask.clone()));
-    run(Call::MaskIsEmpty(mask.clone()));
-    run(Call::MaskCountOnes(mask.clone()));
+    run(Call::Check(mask.clone()));
+    run(Call::IsEmpty(mask.clone()));
+    run(Call::CountOnes(mask.clone()));
     for index in indexes(mask.len) {
-        run(Call::MaskContains {
+        run(Call::Contains {
             mask: mask.clone(),
             index,
         });
         for value in [false, true] {
-            run(Call::MaskSet {
+            run(Call::Set {
                 mask: mask.clone(),
                 index,
                 value,
@@ -207,7 +97,7 @@ fn on_one(rng: &mut Rng, mask: &Mask, run: &mut dyn FnMut(Call)) {
     let words = mask.words.len() as u64;
     for word_index in [0, 1, words.wrapping_sub(1), words, words + 1, u64::MAX] {
         for bits in [0, 1, 1 << 63, u64::MAX, rng.next()] {
-            run(Call::MaskOrWord {
+            run(Call::OrWord {
                 mask: mask.clone(),
                 word_index,
                 bits,
@@ -215,7 +105,7 @@ fn on_one(rng: &mut Rng, mask: &Mask, run: &mut dyn FnMut(Call)) {
         }
     }
     for room in rooms(members(mask)) {
-        run(Call::MaskIndices {
+        run(Call::Indices {
             mask: mask.clone(),
             out: rng.words(room),
         });
@@ -225,13 +115,6 @@ fn on_one(rng: &mut Rng, mask: &Mask, run: &mut dyn FnMut(Call)) {
 /// Room for none, one short, exactly enough, one and five more.
 fn rooms(needed: usize) -> [usize; 5] {
     [0, needed.saturating_sub(1), needed, needed + 1, needed + 5]
-}
-
-fn on_two(mask: &Mask, other: &Mask, run: &mut dyn FnMut(Call)) {
-    run(Call::MaskUnionAssign(mask.clone(), other.clone()));
-    run(Call::MaskIntersectAssign(mask.clone(), other.clone()));
-    run(Call::MaskAndNotAssign(mask.clone(), other.clone()));
-    run(Call::MaskIntersects(mask.clone(), other.clone()));
 }
 
 /// A right and a faulty first mask with right and faulty second masks, of the
@@ -259,7 +142,7 @@ fn pairs(rng: &mut Rng, len: usize, run: &mut dyn FnMut(Call)) {
 
 fn new_masks(rng: &mut Rng, len: usize, run: &mut dyn FnMut(Call)) {
     for room in rooms(words_needed(len.min(SIDE_LIMIT + 1))) {
-        run(Call::MaskNew {
+        run(Call::New {
             len,
             out: rng.words(room),
         });
@@ -291,7 +174,7 @@ fn index_lists(rng: &mut Rng, len: usize, run: &mut dyn FnMut(Call)) {
     lists.push(random);
     for indices in lists {
         for room in rooms(words_needed(len.min(SIDE_LIMIT + 1))) {
-            run(Call::MaskFromIndices {
+            run(Call::FromIndices {
                 len,
                 indices: indices.clone(),
                 out: rng.words(room),
