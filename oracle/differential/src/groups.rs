@@ -84,7 +84,7 @@ impl Group {
 }
 
 macro_rules! groups {
-    ($($variant:ident($module:ident)),*) => {
+    ($($variant:ident($module:ident),)*) => {
         pub static GROUPS: &[Group] = &[$(Group::of::<$module::Call>()),*];
 
         #[derive(Clone, PartialEq)]
@@ -126,7 +126,16 @@ macro_rules! groups {
     };
 }
 
-groups!(Word(word), Csr32(csr32), Mask(mask), Layout(layout));
+groups! {
+    Word(word),
+    Csr32(csr32),
+    Mask(mask),
+    Layout(layout),
+}
+
+pub fn named(name: &str) -> Option<&'static Group> {
+    GROUPS.iter().find(|group| group.name == name)
+}
 
 /// The functions of some groups, one after the other.
 pub fn functions(groups: &[&'static Group]) -> impl Iterator<Item = &'static Function> {

@@ -25,7 +25,7 @@ use std::path::Path;
 use std::time::{Duration, Instant, SystemTime, UNIX_EPOCH};
 
 use crate::compare::{Tally, fail};
-use crate::groups::{GROUPS, Group, place};
+use crate::groups::{GROUPS, Group, named, place};
 use crate::record::{FORMATS, Format};
 use crate::rng::Rng;
 
@@ -65,7 +65,7 @@ fn number(text: &str) -> u64 {
 }
 
 fn group(name: &str) -> &'static Group {
-    match GROUPS.iter().find(|group| group.name == name) {
+    match named(name) {
         Some(group) => group,
         None => fail(&format!("{name}: no such group of calls")),
     }

@@ -1,13 +1,13 @@
 //! How calls and answers are recorded.
 
 use crate::compare::Outcome;
-use crate::groups::{Call, GROUPS, Group, place};
+use crate::groups::{Call, Group, named, place};
 
 /// At most so many elements in a recorded list.
 pub const LIST: usize = 16;
 
 /// The formats, each with the argument that asks for it.
-pub const FORMATS: [Format; 2] = [
+pub static FORMATS: &[Format] = &[
     Format {
         argument: "record",
         groups: &["word", "csr32", "mask"],
@@ -49,11 +49,9 @@ pub struct Format {
 }
 
 impl Format {
-    /// In the order of all groups.
     pub fn groups(&self) -> Vec<&'static Group> {
-        let all = GROUPS.iter();
-        all.filter(|group| self.groups.contains(&group.name))
-            .collect()
+        let names = self.groups.iter();
+        names.map(|name| named(name).expect(name)).collect()
     }
 
     /// The function's place among those of this format, from 1.
@@ -105,6 +103,7 @@ impl Format {
 
 /// Each list over the room of one, then zeros up to the room of `room` lists.
 fn append_lists(bytes: &mut Vec<u8>, lists: &[Vec<u64>], room: usize) {
+    assert!(lists.len() <= room, "no room for {lists:?}");
     for list in lists {
         append(bytes, list, LIST);
     }
