@@ -17,7 +17,7 @@ use Rattle.base.specs.Lists.{sameList}
 use Rattle.base.specs.Sets.{anyBelow}
 use Rattle.base.specs.declared.Checked.{Checked}
 use Rattle.base.proofs.Bools.{and-l, and-r, and-i, lt-or-le, eq-or-ne}
-use Rattle.base.proofs.Checks.{pass, stop, last-pass, last-stop, passed, length-passed, both-passed, checks-passed}
+use Rattle.base.proofs.Checks.{pass, stop, group-pass, last-pass, last-stop, passed, length-passed, both-passed, checks-passed}
 use Rattle.base.proofs.Lists.{length-listFrom, getD-listFrom, same-list, list-same, other-list}
 use Rattle.base.proofs.Sets.{first-is, sum-zero, sum-suc, sum-mono}
 use Rattle.dof_layout.specs.Layout.{startOf, totalOf, offsetsOf, inBlock, blockOf, isKind, sameKey, blockCheck, blocksCheck, layoutCheck, IsLayout}
@@ -210,3 +210,9 @@ accepted-layout kinds ids fields components offsets e =
       short = b .short;
       running = list-same _ _ (passed _ _ (p .1));
     }
+
+-- the offsets that `new` writes are accepted with its blocks: what one call leaves, the next accepts
+pub built-accepted : (kinds ids fields components : List ℕ) → blocksCheck kinds ids fields components ≡ Checked.Accepted
+    → layoutCheck kinds ids fields components (offsetsOf components) ≡ Checked.Accepted
+unfolding layoutCheck
+built-accepted kinds ids fields components e = sym (group-pass _ _ _ e (last-pass _ _ _ (same-list (offsetsOf components) (offsetsOf components) refl) refl))

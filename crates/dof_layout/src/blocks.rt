@@ -74,6 +74,7 @@ pub(crate) fn check(kinds: &[u8], ids: &[u64], fields: &[u32], components: &[u32
     if components.len() != count {
         return base::wrong_length(count, components.len());
     }
+    // To clear the large note would cost a small layout more than its blocks do.
     if count <= 64 {
         let mut seen = [0u64; 16];
         return check_each(kinds, ids, fields, components, &mut seen);

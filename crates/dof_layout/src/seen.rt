@@ -7,6 +7,7 @@ ghost use lib.ListN.{length};
 ghost use Rattle.mask.specs.Mask.{inMask};
 ghost use Rattle.dof_layout.specs.Keys.{Keyed, slotOf, slotAt, Noted};
 
+// A key's slot. The factors spread fields and kinds over the slots, the shifts bring the high bits of an id down.
 fn slot(kind: u8, id: u64, field: u32, slots: usize) -> usize
     requires { ⌜ 0 < slots ⌝ }
     ensures { λ r. ⌜ r ≡ slotOf kind id field slots ⌝ }
@@ -24,6 +25,7 @@ pub(crate) fn is_taken(kinds: &[u8], ids: &[u64], fields: &[u32], seen: &[u64], 
     mask::inner::holds(slots, seen, slot(kinds[b], ids[b], fields[b], slots))
 }
 
+// Block b is noted too.
 pub(crate) fn take(kinds: &[u8], ids: &[u64], fields: &[u32], seen: &mut [u64], b: usize)
     requires { ⌜ Keyed (now kinds) (now ids) (now fields) × (b < length (now kinds)) × Noted (now kinds) (now ids) (now fields) (now seen) b ⌝ }
     ensures { λ _. ⌜ Noted (now (kinds .entry)) (now (ids .entry)) (now (fields .entry)) (now (seen .exit)) (b + 1) ⌝ }
