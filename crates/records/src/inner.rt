@@ -1,10 +1,14 @@
 // Numbers and lists in a record of bytes, little-endian, 8 bytes each; a list has room for 16 elements.
 ghost use mathlib.Core.Path.{_≡_};
-ghost use Prim.Native.Nat.{_+_, _*_, _<_, _≤_};
-ghost use lib.ListN.{length};
+ghost use Prim.Native.Nat.{_+_, _*_, _%_, _<_, _≤_};
+ghost use lib.ListN.{length, getD};
+ghost use Rattle.base.specs.Sets.{one-if};
+ghost use Rattle.records.specs.Bytes.{halfAt, numberAt, countAt, listAt, realOf, bytesOf, placed};
+ghost use mathlib.Core.List.{[], _∷_};
 
 pub fn byte_at(call: &[u8], at: usize) -> u64
     requires { ⌜ at < length (now call) ⌝ }
+    ensures { λ r. ⌜ r ≡ getD (now (call .entry)) at 0 ⌝ }
     ensures { λ r. ⌜ r < 256 ⌝ }
 {
     call[at] as u64
@@ -12,6 +16,7 @@ pub fn byte_at(call: &[u8], at: usize) -> u64
 
 pub fn half_at(call: &[u8], at: usize) -> u64
     requires { ⌜ at + 4 ≤ length (now call) ⌝ }
+    ensures { λ r. ⌜ r ≡ halfAt (now (call .entry)) at ⌝ }
     ensures { λ r. ⌜ r < 4294967296 ⌝ }
 {
     byte_at(call, at)
@@ -22,6 +27,7 @@ pub fn half_at(call: &[u8], at: usize) -> u64
 
 pub fn number_at(call: &[u8], at: usize) -> u64
     requires { ⌜ at + 8 ≤ length (now call) ⌝ }
+    ensures { λ r. ⌜ r ≡ numberAt (now (call .entry)) at ⌝ }
 {
     half_at(call, at) + 4294967296 * half_at(call, at + 4)
 }
@@ -29,6 +35,7 @@ pub fn number_at(call: &[u8], at: usize) -> u64
 // A list's length, of which there is room for 16.
 pub fn count_at(call: &[u8], at: usize) -> usize
     requires { ⌜ at + 8 ≤ length (now call) ⌝ }
+    ensures { λ r. ⌜ r ≡ countAt (now (call .entry)) at ⌝ }
     ensures { λ r. ⌜ r ≤ 16 ⌝ }
 {
     let n = number_at(call, at);
@@ -37,6 +44,7 @@ pub fn count_at(call: &[u8], at: usize) -> usize
 
 pub fn read_list(call: &[u8], at: usize, list: &mut [u64])
     requires { ⌜ (at + 128 ≤ length (now call)) × (length (now list) ≡ 16) ⌝ }
+    ensures { λ _. ⌜ now (list .exit) ≡ listAt (λ x. x) (now (call .entry)) at ⌝ }
 {
     let mut k: usize = 0;
     while k < 16 {
@@ -47,6 +55,7 @@ pub fn read_list(call: &[u8], at: usize, list: &mut [u64])
 
 pub fn read_narrow(call: &[u8], at: usize, list: &mut [u32])
     requires { ⌜ (at + 128 ≤ length (now call)) × (length (now list) ≡ 16) ⌝ }
+    ensures { λ _. ⌜ now (list .exit) ≡ listAt (λ x. x % 4294967296) (now (call .entry)) at ⌝ }
 {
     let mut k: usize = 0;
     while k < 16 {
@@ -57,6 +66,7 @@ pub fn read_narrow(call: &[u8], at: usize, list: &mut [u32])
 
 pub fn read_bytes(call: &[u8], at: usize, list: &mut [u8])
     requires { ⌜ (at + 128 ≤ length (now call)) × (length (now list) ≡ 16) ⌝ }
+    ensures { λ _. ⌜ now (list .exit) ≡ listAt (λ x. x % 256) (now (call .entry)) at ⌝ }
 {
     let mut k: usize = 0;
     while k < 16 {
@@ -66,7 +76,9 @@ pub fn read_bytes(call: &[u8], at: usize, list: &mut [u8])
 }
 
 // The float of a bit pattern; every NaN is one.
-pub fn real(bits: u64) -> f64 {
+pub fn real(bits: u64) -> f64
+    ensures { λ r. ⌜ r ≡ realOf bits ⌝ }
+{
     if bits % 9223372036854775808 > 0x7ff0_0000_0000_0000 {
         return 0.0 / 0.0;
     }
@@ -75,6 +87,7 @@ pub fn real(bits: u64) -> f64 {
 
 pub fn read_reals(call: &[u8], at: usize, list: &mut [f64])
     requires { ⌜ (at + 128 ≤ length (now call)) × (length (now list) ≡ 16) ⌝ }
+    ensures { λ _. ⌜ now (list .exit) ≡ listAt realOf (now (call .entry)) at ⌝ }
 {
     let mut k: usize = 0;
     while k < 16 {
@@ -85,6 +98,7 @@ pub fn read_reals(call: &[u8], at: usize, list: &mut [f64])
 
 pub fn put_number(out: &mut [u8], at: usize, value: u64)
     requires { ⌜ at + 8 ≤ length (now out) ⌝ }
+    ensures { λ _. ⌜ now (out .exit) ≡ placed at (bytesOf (value ∷ []) 8) (now (out .entry)) ⌝ }
 {
     let mut left = value;
     let mut k: usize = 0;
@@ -95,12 +109,15 @@ pub fn put_number(out: &mut [u8], at: usize, value: u64)
     }
 }
 
-pub fn digit(yes: bool) -> u64 {
+pub fn digit(yes: bool) -> u64
+    ensures { λ r. ⌜ r ≡ one-if yes ⌝ }
+{
     if yes { 1 } else { 0 }
 }
 
 pub fn put_list(out: &mut [u8], at: usize, list: &[u64])
     requires { ⌜ (length (now list) ≤ 16) × (at + 128 ≤ length (now out)) ⌝ }
+    ensures { λ _. ⌜ now (out .exit) ≡ placed at (bytesOf (now (list .entry)) (8 * length (now (list .entry)))) (now (out .entry)) ⌝ }
 {
     let mut k: usize = 0;
     while k < list.len() {

@@ -114,6 +114,23 @@ fn run_writing(
     put_list(out, 48, list);
 }
 
+fn run_reading(
+    code: u8,
+    kinds: &[u8],
+    ids: &[u64],
+    fields: &[u32],
+    sizes: &[u32],
+    offsets: &[u64],
+    a: u64,
+    b: u64,
+    out: &mut [u8],
+)
+    requires { ⌜ length (now out) ≡ 176 ⌝ }
+{
+    let answer = reading_call(code, kinds, ids, fields, sizes, offsets, a, b);
+    put_pair(out, answer);
+}
+
 // A call on these blocks; the rest of what it is handed is still in the record.
 fn block_call(
     code: u8,
@@ -149,12 +166,7 @@ fn block_call(
                 out,
             );
         }
-        _ => {
-            put_pair(
-                out,
-                reading_call(code, kinds, ids, fields, sizes, &offsets[0..n5], a, b),
-            );
-        }
+        _ => run_reading(code, kinds, ids, fields, sizes, &offsets[0..n5], a, b, out),
     }
 }
 

@@ -1,4 +1,5 @@
 -- `records::inner::byte_at` meets its contract. Assumes nothing.
+use mathlib.Core.Path.{refl}
 use native.Mathlib.Omega.{arith}
 use borrow.Author.Needs.{needs}
 use Rattle.records.proofs.inner.byte_at.Statement.{statement}
@@ -11,7 +12,7 @@ cast-result : tie.Need-cast-result
 cast-result c = omega (arith, c .shared-slice-known .given (c .before .args .at))
 
 returns : tie.Need-returns
-returns c = omega (arith, c .shared-slice-known .given (c .before .args .at))
+returns c = (refl, omega (arith, c .shared-slice-known .given (c .before .args .at)))
 
 pub byte-at-spec : {M : Type 1} → statement M
 byte-at-spec = tie.close (tie.spec shared-slice-read-result cast-result returns)
