@@ -4,7 +4,7 @@ use mathlib.Core.Bool.{Bool, true, false, _&&_, _||_}
 use mathlib.Core.List.{List, [], _∷_, _++_, append-nil}
 use mathlib.Core.Logic.{_⊎_, inl, inr}
 use Prim.Native.Nat.{ℕ, zero, suc, _+_, _-_, _≤_, _<_}
-use native.Mathlib.Nat.{le-of-suc-le-suc, not-suc-le-zero, le-of-lt}
+use native.Mathlib.Nat.{zero-add, add-zero, le-of-suc-le-suc, not-suc-le-zero, le-of-lt}
 use native.Mathlib.Numerals.{add-one}
 use native.Mathlib.Omega.{arith}
 use borrow.Author.Tests.{eq-eqb, eqb-true}
@@ -147,6 +147,15 @@ pub listFrom-cong : {A : Type 0} (f g : ℕ → A) (k at : ℕ) → ((i : ℕ) �
 unfolding listFrom
 listFrom-cong f g zero at e = refl
 listFrom-cong f g (suc k) at e = ap₂ _∷_ (e at (omega arith) (omega arith)) (listFrom-cong f g k (suc at) (λ i l u. e i (omega arith) (omega arith)))
+
+-- in two parts
+pub listFrom-append : {A : Type 0} (f : ℕ → A) (a b at : ℕ) → listFrom f (a + b) at ≡ listFrom f a at ++ listFrom f b (at + a)
+unfolding listFrom
+listFrom-append f zero b at = ap₂ (listFrom f) (zero-add b) (sym (add-zero at))
+listFrom-append {A = A} f (suc a) b at =
+    let s : suc a + b ≡ suc (a + b) = omega arith in
+    let e : suc at + a ≡ at + suc a = omega arith in
+    ap (λ (n : ℕ). listFrom f n at) s ∙ ap (λ (l : List A). f at ∷ l) (listFrom-append f a b (suc at) ∙ ap (λ (n : ℕ). listFrom f a (suc at) ++ listFrom f b n) e)
 
 -- ---- a loop that writes the list X over the front of a lent list o, one store a turn
 

@@ -144,6 +144,9 @@ fn layouts() {
     io::write_all(STDOUT_FILENO, b", component ");
     io::print_decimal(STDOUT_FILENO, place.second);
     io::write_all(STDOUT_FILENO, b"\n");
+}
+
+fn refused_layouts() {
     built(b"no blocks", &[], &[], &[], &[]);
     built(b"components 2,0", &[1, 1], &[0, 1], &[0, 0], &[2, 0]);
     built(b"same block twice", &[1, 1], &[0, 0], &[0, 0], &[2, 1]);
@@ -171,4 +174,5 @@ fn main() {
     matrices();
     masks();
     layouts();
+    refused_layouts();
 }

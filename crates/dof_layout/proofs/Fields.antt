@@ -1,7 +1,7 @@
 -- The mask of a field, a run of blocks at a time. Assumes nothing.
 use mathlib.Core.Path.{_≡_, refl, sym, ap, ap₂, _∙_}
 use mathlib.Core.Logic.{_⊎_, inl, inr}
-use mathlib.Core.Bool.{Bool, true, false, _&&_, _||_}
+use mathlib.Core.Bool.{Bool, true, false, not, _&&_, _||_}
 use mathlib.Core.List.{List}
 use Prim.Native.Nat.{ℕ, suc, _+_, _≤_, _<_}
 use native.Mathlib.Omega.{arith}
@@ -9,7 +9,7 @@ use borrow.Author.Tests.{eq-eqb, ne-eqb, lt-ltb, le-ltb, le-leb, lt-leb}
 use lib.Dec.{ltb, leb, eqb}
 use lib.ListN.{length, getD}
 use Rattle.base.specs.Sets.{between}
-use Rattle.base.proofs.Bools.{lt-or-le, eq-or-ne}
+use Rattle.base.proofs.Bools.{not-below, lt-or-le, eq-or-ne}
 use Rattle.mask.specs.Mask.{inMask, maskWords}
 use Rattle.mask.specs.Answers.{withRange}
 use Rattle.mask.proofs.Masks.{mask-cong, mask-holds}
@@ -32,15 +32,7 @@ module _ (components : List ℕ) (i : ℕ) (l : i < totalOf components) where
           ∙ sym (le-ltb (blockOf components i) b h)
 
   pub past-block : (a : ℕ) → leb (startOf components a) i ≡ leb a (blockOf components i)
-  past-block a = go (lt-or-le (blockOf components i) a)
-    where
-      go : (blockOf components i < a) ⊎ (a ≤ blockOf components i) → leb (startOf components a) i ≡ leb a (blockOf components i)
-      go (inl h) =
-          lt-leb (startOf components a) i (omega (arith, block-below components (blockOf components i) i (block-holds components i l .1), start-mono components (suc (blockOf components i)) a h))
-          ∙ sym (lt-leb a (blockOf components i) h)
-      go (inr h) =
-          le-leb (startOf components a) i (omega (arith, block-from components (blockOf components i) i (block-holds components i l .1), start-mono components a (blockOf components i) h))
-          ∙ sym (le-leb a (blockOf components i) h)
+  past-block a = sym (not-below i (startOf components a)) ∙ ap not (before-block a) ∙ not-below (blockOf components i) a
 
 module _ (fields components : List ℕ) (field : ℕ) where
   -- the nodes taken before block b: those in a block before b that has the field

@@ -20,7 +20,7 @@ use Rattle.base.proofs.Bools.{and-l, and-r, and-i, lt-or-le, eq-or-ne}
 use Rattle.base.proofs.Checks.{pass, stop, group-pass, last-pass, last-stop, passed, length-passed, both-passed, checks-passed}
 use Rattle.base.proofs.Lists.{length-listFrom, getD-listFrom, same-list, list-same, other-list}
 use Rattle.base.proofs.Sets.{first-is, sum-zero, sum-suc, sum-mono}
-use Rattle.dof_layout.specs.Layout.{startOf, totalOf, offsetsOf, inBlock, blockOf, isKind, sameKey, blockCheck, blocksCheck, layoutCheck, IsLayout}
+use Rattle.dof_layout.specs.Layout.{startOf, totalOf, offsetsOf, inBlock, blockOf, isKind, sameKey, blockCheck, blocksCheck, layoutCheck, AreBlocks, IsLayout}
 
 -- ---- running totals
 
@@ -162,15 +162,6 @@ block-passed kinds ids fields components b e =
 
 -- ---- an accepted layout
 
--- what the four lists' check gives
-pub record AreBlocks (kinds ids fields components : List ℕ) : Type 0 where
-  pub some : 0 < length kinds
-  pub ids-length : length ids ≡ length kinds
-  pub fields-length : length fields ≡ length kinds
-  pub components-length : length components ≡ length kinds
-  pub filled : (b : ℕ) → b < length kinds → 0 < getD components b 0
-  pub short : totalOf components ≤ sideLimit
-
 pub accepted-blocks : (kinds ids fields components : List ℕ) → blocksCheck kinds ids fields components ≡ Checked.Accepted → AreBlocks kinds ids fields components
 unfolding blocksCheck
 accepted-blocks kinds ids fields components e =
@@ -200,16 +191,7 @@ pub accepted-layout : (kinds ids fields components offsets : List ℕ) → layou
 unfolding layoutCheck
 accepted-layout kinds ids fields components offsets e =
     let p = both-passed _ _ e in
-    let b = accepted-blocks kinds ids fields components (p .0) in
-    record {
-      some = b .some;
-      ids-length = b .ids-length;
-      fields-length = b .fields-length;
-      components-length = b .components-length;
-      filled = b .filled;
-      short = b .short;
-      running = list-same _ _ (passed _ _ (p .1));
-    }
+    record { blocks = accepted-blocks kinds ids fields components (p .0); running = list-same _ _ (passed _ _ (p .1)) }
 
 -- the offsets that `new` writes are accepted with its blocks: what one call leaves, the next accepts
 pub built-accepted : (kinds ids fields components : List ℕ) → blocksCheck kinds ids fields components ≡ Checked.Accepted

@@ -5,7 +5,6 @@ use mathlib.Core.List.{List}
 use Prim.Native.Nat.{ℕ, _+_, _-_, _*_, _≤_, _<_}
 use native.Mathlib.Omega.{arith}
 use native.Mathlib.Nat.{lt-of-le-of-lt}
-use native.Mathlib.Decide.{ℕ-discrete}
 use borrow.Author.Tests.{eq-eqb}
 use lib.Bits.{and-le-r}
 use lib.Dec.{T, eqb}
@@ -13,7 +12,7 @@ use lib.ListN.{length, getD, replicate, length-replicate}
 use Rattle.base.specs.Checks.{sideLimit}
 use Rattle.base.specs.Sets.{anyBelow}
 use Rattle.base.proofs.Bools.{T-of, T-true, not-T-of}
-use Rattle.base.proofs.Sets.{any-none}
+use Rattle.base.proofs.Sets.{any-none, below-next}
 use Rattle.mask.specs.Mask.{inMask, wordsFor, IsMask}
 use Rattle.mask.specs.Answers.{withNode}
 use Rattle.mask.proofs.Masks.{mask-holds, mask-is, mask-length, mask-none}
@@ -41,9 +40,6 @@ none-noted kinds ids fields n h le = record {
         subst (IsMask (n * 64)) (sym (ap (λ (k : ℕ). replicate {A = ℕ} k 0) words ∙ mask-none (n * 64))) (mask-is (n * 64) (λ i. false) le)
 
 module _ (kinds ids fields seen : List ℕ) (b : ℕ) (noted : Noted kinds ids fields seen b) where
-  slots : ℕ
-  slots = length seen * 64
-
   -- the slot is free: no earlier block has the key
   pub unseen : inMask seen (slotAt kinds ids fields (length seen * 64) b) ≡ false → anyBelow b (λ a. sameKey kinds ids fields a b) ≡ false
   unseen e =
@@ -61,7 +57,7 @@ module _ (kinds ids fields seen : List ℕ) (b : ℕ) (noted : Noted kinds ids f
   noted-next after e = record {
     some = omega (arith, same-length, noted .some);
     mask = subst (λ (k : ℕ). IsMask (k * 64) after) (sym same-length) (subst (IsMask (length seen * 64)) (sym e) (mask-is (length seen * 64) with-b (noted .mask .short)));
-    each = λ a l. subst (λ (k : ℕ). T (inMask after (slotAt kinds ids fields (k * 64) a))) (sym same-length) (held a l (ℕ-discrete a b));
+    each = λ a l. subst (λ (k : ℕ). T (inMask after (slotAt kinds ids fields (k * 64) a))) (sym same-length) (held a l);
   }
     where
       slot-b : ℕ
@@ -83,8 +79,8 @@ module _ (kinds ids fields seen : List ℕ) (b : ℕ) (noted : Noted kinds ids f
       kept true v h = refl
       kept false v h = h
 
-      held : (a : ℕ) → a < b + 1 → Dec (a ≡ b) → T (inMask after (slotAt kinds ids fields (length seen * 64) a))
-      held a l (yes d) =
-          T-of _ (in-after a ∙ ap (λ (t : Bool). cond t true (inMask seen (slotAt kinds ids fields (length seen * 64) a))) (eq-eqb _ _ (ap (slotAt kinds ids fields (length seen * 64)) d)))
-      held a l (no d) =
-          T-of _ (in-after a ∙ kept (eqb (slotAt kinds ids fields (length seen * 64) a) slot-b) _ (T-true _ (noted .each a (omega arith))))
+      held : (a : ℕ) → a < b + 1 → T (inMask after (slotAt kinds ids fields (length seen * 64) a))
+      held =
+          below-next (λ a. T (inMask after (slotAt kinds ids fields (length seen * 64) a))) b
+          (λ a l. T-of _ (in-after a ∙ kept (eqb (slotAt kinds ids fields (length seen * 64) a) slot-b) _ (T-true _ (noted .each a l))))
+          (T-of _ (in-after b ∙ ap (λ (t : Bool). cond t true (inMask seen slot-b)) (eq-eqb slot-b slot-b refl)))

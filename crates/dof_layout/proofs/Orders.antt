@@ -11,7 +11,7 @@ use borrow.Author.Tests.{eq-eqb, ne-eqb, le-ltb}
 use lib.Dec.{T, ltb, eqb, ltb→lt, lt→ltb, eqb→eq}
 use lib.ListN.{getD}
 use Rattle.base.specs.Sets.{anyBelow}
-use Rattle.base.proofs.Bools.{and-l, and-r, and-i, or-l, or-r, or-e, T-false, T-of, not-T-of}
+use Rattle.base.proofs.Bools.{and-l, and-r, and-i, or-l, or-r, or-e, T-false, T-of, not-T-of, or-false}
 use Rattle.base.proofs.Sets.{any-none, below-next}
 use Rattle.dof_layout.specs.Layout.{sameKey}
 use Rattle.dof_layout.specs.Keys.{above-or, aboveKey, Highest}
@@ -41,11 +41,7 @@ never-or x r f p = go (or-e (ltb x x) (eqb x x && r) p)
 
 -- what the code's tests say of it
 pub or-differ : (x y : ℕ) (r : Bool) → (x ≡ y → ⊥) → ltb y x ≡ above-or x y r
-or-differ x y r n = sym (ap (λ (t : Bool). ltb y x || (t && r)) (ne-eqb x y n) ∙ last (ltb y x))
-  where
-    last : (b : Bool) → (b || false) ≡ b
-    last true = refl
-    last false = refl
+or-differ x y r n = sym (ap (λ (t : Bool). ltb y x || (t && r)) (ne-eqb x y n) ∙ or-false (ltb y x))
 
 pub or-equal : (x y : ℕ) (r : Bool) → x ≡ y → r ≡ above-or x y r
 or-equal x y r e = sym (ap₂ (λ (s t : Bool). s || (t && r)) (le-ltb y x (omega arith)) (eq-eqb x y e))

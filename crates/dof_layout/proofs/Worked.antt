@@ -19,6 +19,7 @@ pub record Layouts : Type 0 where
   pub no-blocks : blocksCheck [] [] [] [] ≡ Checked.Refused (plain 14)
   pub ids-short : blocksCheck (1 ∷ 1 ∷ []) (0 ∷ []) (0 ∷ 0 ∷ []) (2 ∷ 1 ∷ []) ≡ Checked.Refused (wrongLength 2 1)
   pub fields-long : blocksCheck (1 ∷ []) (0 ∷ []) (0 ∷ 0 ∷ []) (2 ∷ 1 ∷ []) ≡ Checked.Refused (wrongLength 1 2)
+  pub components-short : blocksCheck (1 ∷ 1 ∷ []) (0 ∷ 1 ∷ []) (0 ∷ 0 ∷ []) (2 ∷ []) ≡ Checked.Refused (wrongLength 2 1)
   pub empty-block : blocksCheck (1 ∷ 1 ∷ []) (0 ∷ 1 ∷ []) (0 ∷ 0 ∷ []) (2 ∷ 0 ∷ []) ≡ Checked.Refused (plain 15)
   pub twice : blocksCheck (1 ∷ 1 ∷ []) (7 ∷ 7 ∷ []) (0 ∷ 0 ∷ []) (2 ∷ 1 ∷ []) ≡ Checked.Refused (plain 16)
   pub far-twin : blocksCheck (1 ∷ 2 ∷ 1 ∷ []) (7 ∷ 8 ∷ 7 ∷ []) (0 ∷ 0 ∷ 0 ∷ []) (2 ∷ 1 ∷ 1 ∷ []) ≡ Checked.Refused (plain 16)
@@ -44,6 +45,7 @@ pub record Layouts : Type 0 where
   pub field : fieldWords (1 ∷ 1 ∷ []) (0 ∷ 1 ∷ []) (0 ∷ 5 ∷ []) (2 ∷ 1 ∷ []) (0 ∷ 2 ∷ 3 ∷ []) 5 (9 ∷ 9 ∷ []) ≡ 4 ∷ 9 ∷ []
   pub field-over-words : fieldWords (1 ∷ 1 ∷ []) (0 ∷ 1 ∷ []) (0 ∷ 5 ∷ []) (63 ∷ 2 ∷ []) (0 ∷ 63 ∷ 65 ∷ []) 5 (9 ∷ 9 ∷ []) ≡ 9223372036854775808 ∷ 1 ∷ []
   pub field-length : fieldAnswer (1 ∷ 1 ∷ []) (0 ∷ 1 ∷ []) (0 ∷ 5 ∷ []) (2 ∷ 1 ∷ []) (0 ∷ 2 ∷ 3 ∷ []) (9 ∷ []) ≡ Counted.Count 3
+  pub field-no-room : fieldAnswer (1 ∷ 1 ∷ []) (0 ∷ 1 ∷ []) (0 ∷ 5 ∷ []) (63 ∷ 2 ∷ []) (0 ∷ 63 ∷ 65 ∷ []) (9 ∷ []) ≡ Counted.Refused (plain 25)
   pub kind-6 : kindAnswer 6 ≡ Kinded.Kind DofEntityKind.Constraint
   pub kind-0 : kindAnswer 0 ≡ Kinded.Refused (plain 17)
   pub kind-256 : kindAnswer 256 ≡ Kinded.Refused (plain 17)
@@ -54,6 +56,7 @@ layouts = record {
   no-blocks = refl;
   ids-short = refl;
   fields-long = refl;
+  components-short = refl;
   empty-block = refl;
   twice = refl;
   far-twin = refl;
@@ -79,6 +82,7 @@ layouts = record {
   field = refl;
   field-over-words = refl;
   field-length = refl;
+  field-no-room = refl;
   kind-6 = refl;
   kind-0 = refl;
   kind-256 = refl;

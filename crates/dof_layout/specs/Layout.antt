@@ -66,9 +66,9 @@ unfoldable pub layoutCheck : List ℕ → List ℕ → List ℕ → List ℕ →
 layoutCheck kinds ids fields components offsets =
     blocksCheck kinds ids fields components then must (sameList offsets (offsetsOf components)) 26
 
--- ---- what an accepted layout is
+-- ---- what acceptance gives
 
-pub record IsLayout (kinds ids fields components offsets : List ℕ) : Type 0 where
+pub record AreBlocks (kinds ids fields components : List ℕ) : Type 0 where
   pub some : 0 < length kinds
   pub ids-length : length ids ≡ length kinds
   pub fields-length : length fields ≡ length kinds
@@ -76,4 +76,7 @@ pub record IsLayout (kinds ids fields components offsets : List ℕ) : Type 0 wh
   -- no block is empty
   pub filled : (b : ℕ) → b < length kinds → 0 < getD components b 0
   pub short : totalOf components ≤ sideLimit
+
+pub record IsLayout (kinds ids fields components offsets : List ℕ) : Type 0 where
+  pub blocks : AreBlocks kinds ids fields components
   pub running : offsets ≡ offsetsOf components

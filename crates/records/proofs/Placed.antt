@@ -1,24 +1,15 @@
 -- Bytes put at a place, one after the other. Assumes nothing.
 use mathlib.Core.Path.{_≡_, refl, sym, ap, ap₂, _∙_}
 use mathlib.Core.List.{List, [], _∷_, _++_, append-assoc, append-nil}
-use Prim.Native.Nat.{ℕ, zero, suc, _+_, _*_, _/_, _%_, _≤_, _<_}
+use Prim.Native.Nat.{ℕ, suc, _+_, _*_, _/_, _%_, _≤_, _<_}
 use native.Mathlib.Omega.{arith}
-use native.Mathlib.Nat.{zero-add, add-zero}
+use native.Mathlib.Nat.{add-zero}
 use native.Mathlib.Numerals.{add-one}
 use lib.ListN.{length, getD, set, take, drop, length-append, length-drop, take-append-drop}
 use lib.Seq.{drop-cons, drop-drop, set-at, ext-getD, length-take-le, take-append-seam, drop-append-add}
 use Rattle.base.specs.Lists.{listFrom}
-use Rattle.base.proofs.Lists.{length-listFrom, getD-listFrom}
+use Rattle.base.proofs.Lists.{length-listFrom, getD-listFrom, listFrom-append}
 use Rattle.records.specs.Bytes.{shifted, bytesOf, placed}
-
--- a list made by a rule, in two parts
-list-append : (f : ℕ → ℕ) (a b at : ℕ) → listFrom f (a + b) at ≡ listFrom f a at ++ listFrom f b (at + a)
-unfolding listFrom
-list-append f zero b at = ap₂ (listFrom f) (zero-add b) (sym (add-zero at))
-list-append f (suc a) b at =
-    let s : suc a + b ≡ suc (a + b) = omega arith in
-    let e : suc at + a ≡ at + suc a = omega arith in
-    ap (λ (n : ℕ). listFrom f n at) s ∙ ap (λ (l : List ℕ). f at ∷ l) (list-append f a b (suc at) ∙ ap (λ (n : ℕ). listFrom f a (suc at) ++ listFrom f b n) e)
 
 module _ (at : ℕ) (o : List ℕ) where
   -- nothing is put
@@ -75,7 +66,7 @@ pub byte-next : (value k left : ℕ) → k < 8 → left ≡ shifted value k → 
 unfolding bytesOf listFrom
 byte-next value k left h e =
     sym
-    (list-append (λ j. shifted (getD (value ∷ []) (j / 8) 0) (j % 8) % 256) k 1 0
+    (listFrom-append (λ j. shifted (getD (value ∷ []) (j / 8) 0) (j % 8) % 256) k 1 0
     ∙ ap (λ (v : ℕ). bytesOf (value ∷ []) k ++ (v ∷ [])) (here ∙ sym (ap (λ (n : ℕ). n % 256) e)))
   where
     zeroth : (0 + k) / 8 ≡ 0
@@ -100,7 +91,7 @@ pub number-next : (l : List ℕ) (k : ℕ) → bytesOf l (8 * k) ++ bytesOf (get
 unfolding bytesOf
 number-next l k =
     ap (λ (x : List ℕ). bytesOf l (8 * k) ++ x) one
-    ∙ sym (list-append (λ j. shifted (getD l (j / 8) 0) (j % 8) % 256) (8 * k) 8 0) ∙ ap (bytesOf l) wider
+    ∙ sym (listFrom-append (λ j. shifted (getD l (j / 8) 0) (j % 8) % 256) (8 * k) 8 0) ∙ ap (bytesOf l) wider
   where
     wider : 8 * k + 8 ≡ 8 * (k + 1)
     wider = omega arith

@@ -37,19 +37,19 @@ returns : tie.Need-returns
 returns c = on-accepted _ _ _ _ (ok (c .before)) (sym (ap (λ (t : Bool). cond t (Ranged.Nodes (rangeOf (c .before .before .before .before .before .before .before .before .before .args .components .now) (c .before .before .before .before .before .before .before .before .before .args .index))) Ranged.Nothing) (le-ltb _ _ (c .if1 .taken))))
 
 mul-t11 : tie.Need-mul-t11
-mul-t11 c = let l = layout (c .before) in omega (arith, offsets-count _ _ (l .running), l .components-length, c .if1 .left)
+mul-t11 c = let l = layout (c .before) in omega (arith, offsets-count _ _ (l .running), l .blocks .components-length, c .if1 .left)
 
 shared-slice-read-t12 : tie.Need-shared-slice-read-t12
-shared-slice-read-t12 c = let l = layout (c .before .before) in omega (arith, offsets-count _ _ (l .running), l .components-length, c .before .if1 .left)
+shared-slice-read-t12 c = let l = layout (c .before .before) in omega (arith, offsets-count _ _ (l .running), l .blocks .components-length, c .before .if1 .left)
 
 add-t15 : tie.Need-add-t15
 add-t15 c = search needs
 
 mul-t16 : tie.Need-mul-t16
-mul-t16 c = let l = layout (c .before .before) in omega (arith, offsets-count _ _ (l .running), l .components-length, c .before .if1 .left)
+mul-t16 c = let l = layout (c .before .before) in omega (arith, offsets-count _ _ (l .running), l .blocks .components-length, c .before .if1 .left)
 
 shared-slice-read-t18 : tie.Need-shared-slice-read-t18
-shared-slice-read-t18 c = let l = layout (c .before .before .before) in omega (arith, offsets-count _ _ (l .running), l .components-length, c .before .before .if1 .left)
+shared-slice-read-t18 c = let l = layout (c .before .before .before) in omega (arith, offsets-count _ _ (l .running), l .blocks .components-length, c .before .before .if1 .left)
 
 returns-2 : tie.Need-returns-2
 returns-2 c = on-refused _ _ _ Ranged.Refused (sym (c .before .before .before .check .ensures) ∙ c .before .checked .given .1)
@@ -59,7 +59,7 @@ returns-3 c =
     let s = c .before .before .before .before .before .before .before .before .before .before .before .args in
     let l = layout (c .before .before .before) in
     let b = s .index in
-    let inside : b < length (s .components .now) = omega (arith, l .components-length, c .before .before .if1 .left) in
+    let inside : b < length (s .components .now) = omega (arith, l .blocks .components-length, c .before .before .if1 .left) in
     on-accepted _ _ _ _ (ok (c .before .before .before))
     (ap₂ (λ (x y : ℕ). Ranged.Nodes (record { start = x; end = y })) (total-at _ _ b (l .running) (omega arith)) (total-at _ _ (b + 1) (l .running) (omega arith) ∙ ap (startOf (s .components .now)) (add-one b))
     ∙ sym (ap (λ (t : Bool). cond t (Ranged.Nodes (rangeOf (s .components .now) b)) Ranged.Nothing) (lt-ltb _ _ (c .before .before .if1 .left))))

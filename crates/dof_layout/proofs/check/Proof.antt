@@ -2,8 +2,8 @@
 use mathlib.Core.Path.{_≡_, refl, sym, _∙_}
 use Rattle.base.specs.declared.Checked.{Checked}
 use Rattle.base.proofs.Checks.{group-pass, group-stop, last-pass, last-stop, call-no, call-yes}
-use Rattle.dof_layout.specs.Layout.{blocksCheck, layoutCheck}
-use Rattle.dof_layout.proofs.Layouts.{AreBlocks, accepted-blocks}
+use Rattle.dof_layout.specs.Layout.{blocksCheck, layoutCheck, AreBlocks}
+use Rattle.dof_layout.proofs.Layouts.{accepted-blocks}
 use borrow.Author.Needs.{needs}
 use Rattle.dof_layout.proofs.check.Statement.{statement}
 use Rattle.dof_layout.proofs.check.Tie as tie

@@ -46,7 +46,7 @@ shared-slice-read-total : tie.Need-shared-slice-read-total
 shared-slice-read-total c = omega (arith, offsets-count _ _ (layout (c .before) .running))
 
 words-for-requires : tie.Need-words-for-requires
-words-for-requires c κs = omega (arith, total (c .before), layout (c .before) .short)
+words-for-requires c κs = omega (arith, total (c .before), layout (c .before) .blocks .short)
 
 -- what is needed: the words of a mask of that many nodes
 needed : (c : tie.After-words-for) → c .words-for .result ≡ wordsFor (totalOf (c .before .before .before .before .before .before .before .before .before .before .before .args .components .now))
@@ -70,7 +70,7 @@ slice-aggregate-fill-field c = sym (length-take-le _ _ (c .before .if1 .left))
 fill-field-requires : tie.Need-fill-field-requires
 fill-field-requires c κs =
     let l = layout (c .before .before .before .before) in
-    (l .running, l .fields-length ∙ sym (l .components-length), l .short, length-take-le _ _ (c .before .if1 .left) ∙ needed (c .before .before))
+    (l .running, l .blocks .fields-length ∙ sym (l .blocks .components-length), l .blocks .short, length-take-le _ _ (c .before .if1 .left) ∙ needed (c .before .before))
 
 returns-2 : tie.Need-returns-2
 unfolding fieldCheck

@@ -54,7 +54,7 @@ locate-requires : tie.Need-locate-requires
 locate-requires c κs =
     let s = c .before .before .before .before .before .before .before .before .before .before .args in
     let l = layout (c .before .before) in
-    (l .running, omega (arith, l .some, l .components-length), omega arith, omega (arith, start-zero (s .components .now)), inside c)
+    (l .running, omega (arith, l .blocks .some, l .blocks .components-length), omega arith, omega (arith, start-zero (s .components .now)), inside c)
 
 held : (c : tie.Else1) → (blockOf (c .before .before .before .before .before .before .before .before .before .before .args .components .now) (c .before .before .before .before .before .before .before .before .before .before .args .dof) < length (c .before .before .before .before .before .before .before .before .before .before .args .components .now)) × T (inBlock (c .before .before .before .before .before .before .before .before .before .before .args .components .now) (blockOf (c .before .before .before .before .before .before .before .before .before .before .args .components .now) (c .before .before .before .before .before .before .before .before .before .before .args .dof)) (c .before .before .before .before .before .before .before .before .before .before .args .dof))
 held c = block-holds _ _ (inside c)
@@ -76,7 +76,7 @@ sub-component : tie.Need-sub-component
 sub-component c = omega (arith, from c)
 
 cast-component : tie.Need-cast-component
-cast-component c = omega (arith, inside (c .before .before), layout (c .before .before .before .before) .short)
+cast-component c = omega (arith, inside (c .before .before), layout (c .before .before .before .before) .blocks .short)
 
 returns-2 : tie.Need-returns-2
 returns-2 c = on-refused _ _ _ Located.Refused (sym (c .before .before .before .check .ensures) ∙ c .before .checked .given .1)

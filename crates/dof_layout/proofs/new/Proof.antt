@@ -7,9 +7,9 @@ use lib.ListN.{length}
 use Rattle.base.specs.declared.Checked.{Checked}
 use Rattle.base.specs.declared.Counted.{Counted}
 use Rattle.base.proofs.Checks.{on-accepted, on-refused, kept, group-pass, group-stop, last-pass, last-stop}
-use Rattle.dof_layout.specs.Layout.{blocksCheck}
+use Rattle.dof_layout.specs.Layout.{blocksCheck, AreBlocks}
 use Rattle.dof_layout.specs.Answers.{newCheck}
-use Rattle.dof_layout.proofs.Layouts.{AreBlocks, accepted-blocks}
+use Rattle.dof_layout.proofs.Layouts.{accepted-blocks}
 use borrow.Author.Needs.{needs}
 use Rattle.dof_layout.proofs.new.Statement.{statement}
 use Rattle.dof_layout.proofs.new.Tie as tie

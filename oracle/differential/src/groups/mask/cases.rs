@@ -106,3 +106,18 @@ pub fn on_two(mask: &Mask, other: &Mask, run: &mut dyn FnMut(Call)) {
     run(Call::AndNotAssign(mask.clone(), other.clone()));
     run(Call::Intersects(mask.clone(), other.clone()));
 }
+
+/// A node asked for, then taken out and put in.
+pub fn at_index(mask: &Mask, index: u64, run: &mut dyn FnMut(Call)) {
+    run(Call::Contains {
+        mask: mask.clone(),
+        index,
+    });
+    for value in [false, true] {
+        run(Call::Set {
+            mask: mask.clone(),
+            index,
+            value,
+        });
+    }
+}

@@ -1,6 +1,6 @@
 //! Masks of many lengths at the edges.
 
-use super::cases::{full, indexes, members, of_index, on_two, random_right};
+use super::cases::{at_index, full, indexes, members, of_index, on_two, random_right};
 use super::{Call, Mask, words_needed};
 use crate::expected::SIDE_LIMIT;
 use crate::rng::Rng;
@@ -82,17 +82,7 @@ fn on_one(rng: &mut Rng, mask: &Mask, run: &mut dyn FnMut(Call)) {
     run(Call::IsEmpty(mask.clone()));
     run(Call::CountOnes(mask.clone()));
     for index in indexes(mask.len) {
-        run(Call::Contains {
-            mask: mask.clone(),
-            index,
-        });
-        for value in [false, true] {
-            run(Call::Set {
-                mask: mask.clone(),
-                index,
-                value,
-            });
-        }
+        at_index(mask, index, run);
     }
     let words = mask.words.len() as u64;
     for word_index in [0, 1, words.wrapping_sub(1), words, words + 1, u64::MAX] {

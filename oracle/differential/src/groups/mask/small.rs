@@ -1,6 +1,6 @@
 //! Small masks, all of a kind.
 
-use super::cases::{FAR, on_two};
+use super::cases::{FAR, at_index, on_two};
 use super::{Call, Mask};
 use crate::expected::SIDE_LIMIT;
 
@@ -40,17 +40,7 @@ fn all_masks(run: &mut dyn FnMut(Call)) {
 
 /// The index of a node, then of a word.
 fn with_index(mask: &Mask, index: u64, run: &mut dyn FnMut(Call)) {
-    run(Call::Contains {
-        mask: mask.clone(),
-        index,
-    });
-    for value in [false, true] {
-        run(Call::Set {
-            mask: mask.clone(),
-            index,
-            value,
-        });
-    }
+    at_index(mask, index, run);
     for bits in [0, 1, 1 << mask.len, 1 << 63, u64::MAX] {
         run(Call::OrWord {
             mask: mask.clone(),
