@@ -2,8 +2,9 @@
 use mathlib.Core.Path.{_≡_, refl, sym, ap, _∙_, subst}
 use mathlib.Core.Logic.{_⊎_, inl, inr}
 use mathlib.Core.Bool.{Bool, true, false, not, _&&_, _||_}
-use Prim.Native.Nat.{ℕ, _≤_, _<_}
-use borrow.Author.Tests.{lt-ltb, le-ltb, le-leb, lt-leb, ltb-true, ltb-false, eqb-true, eqb-false}
+use Prim.Native.Nat.{ℕ, zero, suc, _≤_, _<_}
+use native.Mathlib.Omega.{arith}
+use borrow.Author.Tests.{lt-ltb, le-ltb, le-leb, lt-leb, ltb-true, ltb-false, eq-eqb, ne-eqb, eqb-true, eqb-false}
 use lib.Dec.{T, leb, ltb, eqb}
 
 pub bool-ext : (a b : Bool) → (T a → T b) → (T b → T a) → a ≡ b
@@ -90,3 +91,18 @@ eq-or-ne a b = go (eqb a b) refl
     go : (t : Bool) → eqb a b ≡ t → (a ≡ b) ⊎ (a ≡ b → ⊥)
     go true e = inl (eqb-true a b e)
     go false e = inr (eqb-false a b e)
+
+pub eqb-swap : (a b : ℕ) → eqb a b ≡ eqb b a
+eqb-swap a b = go (eq-or-ne a b)
+  where
+    go : (a ≡ b) ⊎ (a ≡ b → ⊥) → eqb a b ≡ eqb b a
+    go (inl e) = eq-eqb a b e ∙ sym (eq-eqb b a (sym e))
+    go (inr n) = ne-eqb a b n ∙ sym (ne-eqb b a (λ e. n (sym e)))
+
+-- a number that is not 0
+pub T-not-zero : (n : ℕ) → 0 < n → T (not (eqb n 0))
+T-not-zero n h = T-of (not (eqb n 0)) (ap not (ne-eqb n 0 (λ e. omega arith)))
+
+pub not-zero-T : (n : ℕ) → T (not (eqb n 0)) → 0 < n
+not-zero-T zero t = absurd t
+not-zero-T (suc n) t = omega arith

@@ -2,3 +2,4 @@ pub mod Bools
 pub mod Checks
 pub mod Lists
 pub mod Sets
+pub mod Joins

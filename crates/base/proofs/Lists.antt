@@ -1,17 +1,17 @@
 -- Laws of lists: scans from the front, membership, lists made by a rule, and a list written over the front of a lent one. Assumes nothing.
-use mathlib.Core.Path.{_≡_, refl, sym, ap, ap₂, _∙_}
+use mathlib.Core.Path.{_≡_, refl, sym, ap, ap₂, _∙_, subst}
 use mathlib.Core.Bool.{Bool, true, false, _&&_, _||_}
-use mathlib.Core.List.{List, [], _∷_, _++_, append-nil}
+use mathlib.Core.List.{List, [], _∷_, _++_, map, append-nil, append-assoc}
 use mathlib.Core.Logic.{_⊎_, inl, inr}
 use Prim.Native.Nat.{ℕ, zero, suc, _+_, _-_, _≤_, _<_}
-use native.Mathlib.Nat.{zero-add, add-zero, le-of-suc-le-suc, not-suc-le-zero, le-of-lt}
+use native.Mathlib.Nat.{zero-add, add-zero, le-refl, le-of-suc-le-suc, not-suc-le-zero, le-of-lt}
 use native.Mathlib.Numerals.{add-one}
 use native.Mathlib.Omega.{arith}
 use borrow.Author.Tests.{eq-eqb, eqb-true}
 use lib.Dec.{T, eqb, eqb→eq}
-use lib.ListN.{length, getD, set, take, drop, drop-of-length-le, length-append, length-take, length-drop}
+use lib.ListN.{length, getD, set, take, drop, replicate, drop-of-length-le, length-append, length-take, length-drop, length-replicate, take-append-drop, replicate-append-replicate}
 use lib.Seq.{slice, drop-cons, take-suc, length-take-le, set-at, append-snoc, take-all, drop-length, getD-drop, getD-take, length-slice, slice-empty, drop-append-le}
-use Rattle.base.specs.Lists.{every, pairwise, isIn, sameList, listFrom, written, over}
+use Rattle.base.specs.Lists.{every, pairwise, isIn, sameList, listFrom, written, over, zeroed}
 use Rattle.base.proofs.Bools.{and-left, and-right, or-l, or-r, or-e, or-false, T-true, T-false, T-of, both-ways}
 
 -- ---- a loop that tests a list from the front: the test of the whole list is the test of what is left of it
@@ -59,6 +59,26 @@ pairwise-at {A = A} f d s i e h = rw add-one (go s i e (rw add-one at h))
     go (x ∷ (y ∷ ys)) zero e h = and-left (f x y) (pairwise f (y ∷ ys)) e
     go (x ∷ (y ∷ ys)) (suc i) e h = go (y ∷ ys) i (and-right (f x y) (pairwise f (y ∷ ys)) e) (le-of-suc-le-suc h)
 
+-- neighbours that pass make the list pass
+pub pairwise-i : {A : Type 0} (f : A → A → Bool) (d : A) (s : List A) → ((i : ℕ) → i + 1 < length s → f (getD s i d) (getD s (i + 1) d) ≡ true) → pairwise f s ≡ true
+pairwise-i f d [] h = refl
+pairwise-i f d (x ∷ []) h = refl
+pairwise-i f d (x ∷ (y ∷ ys)) h =
+    ap (λ (b : Bool). b && pairwise f (y ∷ ys)) (h 0 (omega arith))
+    ∙ pairwise-i f d (y ∷ ys) (λ i l. let e : suc i + 1 ≡ suc (i + 1) = omega arith in ap (λ (n : ℕ). f (getD (y ∷ ys) i d) (getD (x ∷ (y ∷ ys)) n d)) (sym e) ∙ h (suc i) (omega arith))
+
+-- ---- a list of pointers that never falls
+
+module _ (ptr : List ℕ) (n : ℕ) (rises : (r : ℕ) → r < n → getD ptr r 0 ≤ getD ptr (r + 1) 0) where
+  pub rise-by : (r k : ℕ) → r + k ≤ n → getD ptr r 0 ≤ getD ptr (r + k) 0
+  rise-by r zero h = subst (λ (x : ℕ). getD ptr r 0 ≤ getD ptr x 0) (sym (add-zero r)) (le-refl (getD ptr r 0))
+  rise-by r (suc k) h =
+      let e : r + k + 1 ≡ r + suc k = omega arith in
+      subst (λ (x : ℕ). getD ptr r 0 ≤ getD ptr x 0) e (omega (arith, rise-by r k (omega arith), rises (r + k) (omega arith)))
+
+  pub rise-to : (r k : ℕ) → r ≤ k → k ≤ n → getD ptr r 0 ≤ getD ptr k 0
+  rise-to r k h u = let e : r + (k - r) ≡ k = omega arith in subst (λ (x : ℕ). getD ptr r 0 ≤ getD ptr x 0) e (rise-by r (k - r) (omega arith))
+
 -- ---- membership
 
 pub in-snoc : (c : ℕ) (l : List ℕ) (x : ℕ) → isIn c (l ++ (x ∷ [])) ≡ (isIn c l || eqb x c)
@@ -87,6 +107,11 @@ in-where c (x ∷ xs) t = go (or-e (eqb x c) (isIn c xs) t) (in-where c xs)
     go (inr b) ih = let r : (i : ℕ) × (i < length xs) × (getD xs i 0 ≡ c) = ih b in (suc (r .0), omega arith, r .2)
 
 -- ---- equal lists
+
+pub getD-map : (f : ℕ → ℕ) (l : List ℕ) (n : ℕ) → n < length l → getD (map f l) n 0 ≡ f (getD l n 0)
+getD-map f [] n h = absurd (not-suc-le-zero h)
+getD-map f (x ∷ xs) zero h = refl
+getD-map f (x ∷ xs) (suc n) h = getD-map f xs n (omega arith)
 
 pub same-list : (xs ys : List ℕ) → xs ≡ ys → sameList xs ys ≡ true
 unfolding sameList
@@ -179,6 +204,26 @@ module _ {A : Type 0} (X o : List A) where
 
   pub put-length : (i : ℕ) → i ≤ length X → i ≤ length o → length (written i X o) ≡ length o
   put-length i h k = simp (length-append, length-take, length-drop) (omega arith)
+
+-- ---- a loop that writes zeros from lo on
+
+module _ (lo : ℕ) (l : List ℕ) where
+  pub zero-none : zeroed lo lo l ≡ l
+  zero-none =
+      let e : lo - lo ≡ 0 = omega arith in
+      ap (λ (n : ℕ). (take lo l ++ replicate n 0) ++ drop lo l) e ∙ ap (λ (x : List ℕ). x ++ drop lo l) (append-nil (take lo l)) ∙ take-append-drop lo l
+
+  pub zero-length : (i : ℕ) → lo ≤ i → i ≤ length l → length (zeroed lo i l) ≡ length l
+  zero-length i h k = simp (length-append, length-take, length-replicate, length-drop) (omega arith)
+
+  pub zero-next : (i : ℕ) → lo ≤ i → i < length l → set (zeroed lo i l) i 0 ≡ zeroed lo (i + 1) l
+  zero-next i h k =
+      let n : i + 1 - lo ≡ (i - lo) + 1 = omega arith in
+      ap (λ (x : List ℕ). set ((take lo l ++ replicate (i - lo) 0) ++ x) i 0) (drop-cons l i 0 k)
+      ∙ set-at (take lo l ++ replicate (i - lo) 0) (getD l i 0) (drop (suc i) l) 0 i (length-append (take lo l) (replicate (i - lo) 0) ∙ omega (arith, length-take-le lo l (omega arith), length-replicate {A = ℕ} (i - lo) 0))
+      ∙ sym (append-snoc (take lo l ++ replicate (i - lo) 0) 0 (drop (suc i) l))
+      ∙ ap (λ (x : List ℕ). x ++ drop (suc i) l) (append-assoc (take lo l) (replicate (i - lo) 0) (0 ∷ []) ∙ ap (λ (x : List ℕ). take lo l ++ x) (replicate-append-replicate {A = ℕ} (i - lo) 1 0))
+      ∙ ap₂ (λ (a b : ℕ). (take lo l ++ replicate a 0) ++ drop b l) (sym n) (sym (add-one i))
 
 -- what is still to come is as it was
 pub put-ahead : {A : Type 0} (X o : List A) (k : ℕ) (d : A) → k < length X → k < length o → getD (written k X o) k d ≡ getD o k d

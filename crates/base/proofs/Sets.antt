@@ -10,9 +10,10 @@ use native.Mathlib.Numerals.{add-one}
 use native.Mathlib.Decide.{ℕ-discrete}
 use lib.Dec.{T}
 use lib.ListN.{length, getD}
+use lib.Seq.{getD-append-seam}
 use Rattle.base.specs.Lists.{every}
 use Rattle.base.specs.Sets.{anyBelow, firstBelow, everyBelow, sumBelow, one-if, countBelow, sumOver, keep, membersFrom, membersBelow}
-use Rattle.base.proofs.Bools.{decide, and-l, and-r, and-i, or-l, or-r, or-e, T-true, T-false, T-of, not-T-of}
+use Rattle.base.proofs.Bools.{decide, lt-or-le, and-l, and-r, and-i, or-l, or-r, or-e, T-true, T-false, T-of, not-T-of}
 
 -- ---- any
 
@@ -69,6 +70,47 @@ first-is (suc n) p (suc i) h t none =
     ap (λ (b : Bool). cond b 0 (suc (firstBelow n (λ i. p (suc i))))) (T-false (p 0) (none 0 (omega arith)))
     ∙ ap suc (first-is n (λ i. p (suc i)) i (omega arith) t (λ j l. none (suc j) (omega arith)))
 
+pub first-none : (n : ℕ) (p : ℕ → Bool) → None p n → firstBelow n p ≡ n
+unfolding firstBelow
+first-none zero p none = refl
+first-none (suc n) p none =
+    ap (λ (b : Bool). cond b 0 (suc (firstBelow n (λ i. p (suc i))))) (T-false (p 0) (none 0 (omega arith)))
+    ∙ ap suc (first-none n (λ i. p (suc i)) (λ j l. none (suc j) (omega arith)))
+
+-- the same of a range that starts further on
+module _ (p : ℕ → Bool) (from to : ℕ) where
+  pub first-from : (k : ℕ) → from ≤ k → k < to → T (p k) → ((i : ℕ) → from ≤ i → i < k → T (p i) → ⊥) → k ≡ from + firstBelow (to - from) (λ j. p (from + j))
+  first-from k h l t none =
+      let s : from + (k - from) ≡ k = omega arith in
+      sym (ap (λ (n : ℕ). from + n) (first-is (to - from) (λ j. p (from + j)) (k - from) (omega arith) (subst (λ (n : ℕ). T (p n)) (sym s) t) (λ i u. none (from + i) (omega arith) (omega arith))) ∙ s)
+
+  pub none-from : from ≤ to → ((i : ℕ) → from ≤ i → i < to → T (p i) → ⊥) → to ≡ from + firstBelow (to - from) (λ j. p (from + j))
+  none-from h none =
+      let s : from + (to - from) ≡ to = omega arith in
+      sym (ap (λ (n : ℕ). from + n) (first-none (to - from) (λ j. p (from + j)) (λ i u. none (from + i) (omega arith) (omega arith))) ∙ s)
+
+-- what the first is: it passes if it is below n, and nothing before it passes
+pub record First (n : ℕ) (p : ℕ → Bool) (i : ℕ) : Type 0 where
+  pub within : i ≤ n
+  pub passes : i < n → T (p i)
+  pub before : None p i
+
+pub first-at : (n : ℕ) (p : ℕ → Bool) → First n p (firstBelow n p)
+unfolding firstBelow
+first-at zero p = record { within = omega arith; passes = λ h. absurd (omega arith); before = λ j h t. absurd (omega arith) }
+first-at (suc n) p = go (p 0) refl (first-at n (λ i. p (suc i)))
+  where
+    k : ℕ
+    k = firstBelow n (λ i. p (suc i))
+
+    go : (b : Bool) → p 0 ≡ b → First n (λ i. p (suc i)) k → First (suc n) p (cond b 0 (suc k))
+    go true e f = record { within = omega arith; passes = λ h. T-of (p 0) e; before = λ j h t. absurd (omega arith) }
+    go false e f = record { within = omega (arith, f .within); passes = λ h. f .passes (omega arith); before = λ j h t. under j h t }
+      where
+        under : (j : ℕ) → j < suc k → T (p j) → ⊥
+        under zero h t = not-T-of (p 0) e t
+        under (suc j) h t = f .before j (omega arith) t
+
 -- ---- every
 
 pub every-i : (n : ℕ) (p : ℕ → Bool) → ((i : ℕ) → i < n → T (p i)) → T (everyBelow n p)
@@ -117,6 +159,12 @@ sum-most (suc n) m f h = omega (arith, sum-most n m f (λ i l. h i (omega arith)
   where
     wider : m * suc n ≡ m * n + m
     wider = mul-suc m n
+
+-- the first of them apart
+pub sum-front : (k : ℕ) (f : ℕ → ℕ) → sumBelow (suc k) f ≡ f 0 + sumBelow k (λ j. f (suc j))
+unfolding sumBelow
+sum-front zero f = omega arith
+sum-front (suc k) f = omega (arith, sum-front k f)
 
 -- a range in two parts
 pub sum-append : (a b : ℕ) (f : ℕ → ℕ) → sumBelow (a + b) f ≡ sumBelow a f + sumBelow b (λ j. f (a + j))
@@ -211,6 +259,13 @@ count-lt (suc n) p q f j h no-p yes-q = go (ℕ-discrete j n) (λ h′. count-lt
 pub count-pos : (n : ℕ) (p : ℕ → Bool) (j : ℕ) → j < n → T (p j) → 0 < countBelow n p
 count-pos n p j h t = omega (arith, count-lt n (λ i. false) p (λ i l x. absurd x) j h (λ x. x) t)
 
+-- below a member there are fewer
+pub count-member : (n : ℕ) (p : ℕ → Bool) (c : ℕ) → c < n → T (p c) → countBelow c p < countBelow n p
+count-member n p c h t =
+    let e : c + suc (n - suc c) ≡ n = omega arith in
+    let one : 0 < countBelow (suc (n - suc c)) (λ k. p (c + k)) = count-pos (suc (n - suc c)) (λ k. p (c + k)) 0 (omega arith) (subst (λ (x : ℕ). T (p x)) (sym (add-zero c)) t) in
+    omega (arith, sum-append c (suc (n - suc c)) (λ k. one-if (p k)), ap (λ (m : ℕ). countBelow m p) e)
+
 -- nothing between passes
 pub count-past : (len n : ℕ) (p : ℕ → Bool) → len ≤ n → ((i : ℕ) → len ≤ i → i < n → T (p i) → ⊥) → countBelow n p ≡ countBelow len p
 count-past len n p h none =
@@ -295,15 +350,57 @@ members-at p b (suc n) j h = go (p b) refl j h (λ i l. members-at p (suc b) n i
     go true e (suc j) h ih = let q = ih j (le-of-suc-le-suc h) in (omega (arith, q .0), omega (arith, q .1), q .2)
     go false e j h ih = let q = ih j h in (omega (arith, q .0), omega (arith, q .1), q .2)
 
+-- they rise
+pub members-rising : (p : ℕ → Bool) (b n j k : ℕ) → j < k → k < length (membersFrom p b n) → getD (membersFrom p b n) j 0 < getD (membersFrom p b n) k 0
+unfolding membersFrom
+members-rising p b zero j k l h = absurd (not-suc-le-zero h)
+members-rising p b (suc n) j k l h = go (p b) j k l h (members-rising p (suc b) n)
+  where
+    rest : List ℕ
+    rest = membersFrom p (suc b) n
+
+    go : (t : Bool) (j k : ℕ) → j < k → k < length (keep t b rest) → ((j k : ℕ) → j < k → k < length rest → getD rest j 0 < getD rest k 0)
+        → getD (keep t b rest) j 0 < getD (keep t b rest) k 0
+    go true j zero l h ih = absurd (not-suc-le-zero l)
+    go true zero (suc k) l h ih = members-at p (suc b) n k (omega arith) .0
+    go true (suc j) (suc k) l h ih = ih j k (omega arith) (omega arith)
+    go false j k l h ih = ih j k l h
+
+-- and none is missing
+pub members-find : (p : ℕ → Bool) (b n w : ℕ) → b ≤ w → w < b + n → T (p w) → (k : ℕ) × (k < length (membersFrom p b n)) × (getD (membersFrom p b n) k 0 ≡ w)
+unfolding membersFrom
+members-find p b zero w l u t = absurd (omega arith)
+members-find p b (suc n) w l u t = go (p b) refl (ℕ-discrete b w) (λ l′. members-find p (suc b) n w l′ (omega arith) t)
+  where
+    go : (s : Bool) → p b ≡ s → Dec (b ≡ w) → (suc b ≤ w → (k : ℕ) × (k < length (membersFrom p (suc b) n)) × (getD (membersFrom p (suc b) n) k 0 ≡ w))
+        → (k : ℕ) × (k < length (keep s b (membersFrom p (suc b) n))) × (getD (keep s b (membersFrom p (suc b) n)) k 0 ≡ w)
+    go true e (yes f) ih = (0, omega arith, f)
+    go true e (no f) ih = let r = ih (omega arith) in (suc (r .0), omega (arith, r .1), r .2)
+    go false e (yes f) ih = absurd (subst (λ (v : Bool). T v) (ap p (sym f) ∙ e) t)
+    go false e (no f) ih = ih (omega arith)
+
+-- a sum over the list of members is the sum over the set
+pub sum-members : (p : ℕ → Bool) (b n : ℕ) (f : ℕ → ℕ) → sumBelow (length (membersFrom p b n)) (λ k. f (getD (membersFrom p b n) k 0)) ≡ sumBelow n (λ j. cond (p (b + j)) (f (b + j)) 0)
+unfolding membersFrom
+sum-members p b zero f = sum-zero (λ k. f (getD [] k 0)) ∙ sym (sum-zero (λ j. cond (p (b + j)) (f (b + j)) 0))
+sum-members p b (suc n) f =
+    go (p b) (sum-members p (suc b) n f)
+    ∙ ap₂ _+_ (ap (λ (i : ℕ). cond (p i) (f i) 0) (sym (add-zero b)))
+    (sum-cong n (λ j. cond (p (suc b + j)) (f (suc b + j)) 0) (λ j. cond (p (b + suc j)) (f (b + suc j)) 0) (λ j h. ap (λ (i : ℕ). cond (p i) (f i) 0) (omega arith)))
+    ∙ sym (sum-front n (λ j. cond (p (b + j)) (f (b + j)) 0))
+  where
+    rest : List ℕ
+    rest = membersFrom p (suc b) n
+
+    go : (t : Bool) → sumBelow (length rest) (λ k. f (getD rest k 0)) ≡ sumBelow n (λ j. cond (p (suc b + j)) (f (suc b + j)) 0)
+        → sumBelow (length (keep t b rest)) (λ k. f (getD (keep t b rest) k 0)) ≡ cond t (f b) 0 + sumBelow n (λ j. cond (p (suc b + j)) (f (suc b + j)) 0)
+    go true ih = sum-front (length rest) (λ k. f (getD (b ∷ rest) k 0)) ∙ ap (λ (x : ℕ). f b + x) ih
+    go false ih = ih ∙ sym (zero-add (sumBelow n (λ j. cond (p (suc b + j)) (f (suc b + j)) 0)))
+
 -- how many there are
 keep-length : (t : Bool) (i : ℕ) (l : List ℕ) → length (keep t i l) ≡ one-if t + length l
 keep-length true i l = omega arith
 keep-length false i l = omega arith
-
-count-front : (k : ℕ) (p : ℕ → Bool) → countBelow (suc k) p ≡ one-if (p 0) + countBelow k (λ j. p (suc j))
-unfolding sumBelow
-count-front zero p = omega arith
-count-front (suc k) p = omega (arith, count-front k p)
 
 pub members-count : (p : ℕ → Bool) (b n : ℕ) → length (membersFrom p b n) ≡ countBelow n (λ j. p (b + j))
 unfolding membersFrom sumBelow
@@ -312,13 +409,50 @@ members-count p b (suc n) =
     keep-length (p b) b (membersFrom p (suc b) n)
     ∙ ap₂ _+_ (ap (λ (i : ℕ). one-if (p i)) (sym (add-zero b)))
     (members-count p (suc b) n ∙ count-cong n (λ j. p (suc b + j)) (λ j. p (b + suc j)) (λ j h. ap p (omega arith)))
-    ∙ sym (count-front n (λ j. p (b + j)))
+    ∙ sym (sum-front n (λ j. one-if (p (b + j))))
 
 pub count-members : (n : ℕ) (p : ℕ → Bool) → length (membersBelow n p) ≡ countBelow n p
 count-members n p = members-count p 0 n ∙ count-cong n (λ j. p (0 + j)) p (λ j h. ap p (zero-add j))
 
 pub members-le : (p : ℕ → Bool) (b n : ℕ) → length (membersFrom p b n) ≤ n
 members-le p b n = omega (arith, members-count p b n, count-le n (λ j. p (b + j)))
+
+-- a member's place is the count of those below it
+pub getD-count : (n : ℕ) (p : ℕ → Bool) (c : ℕ) → c < n → T (p c) → getD (membersBelow n p) (countBelow c p) 0 ≡ c
+getD-count n p c h t =
+    let e : n ≡ c + suc (n - suc c) = omega arith in
+    ap (λ (m : ℕ). getD (membersBelow m p) (countBelow c p) 0) e
+    ∙ ap (λ (l : List ℕ). getD l (countBelow c p) 0) (members-append p 0 c (suc (n - suc c)) ∙ ap (λ (l : List ℕ). membersBelow c p ++ l) head)
+    ∙ ap (λ (i : ℕ). getD (membersBelow c p ++ (c ∷ membersFrom p (suc c) (n - suc c))) i 0) (sym (count-members c p))
+    ∙ getD-append-seam (membersBelow c p) c (membersFrom p (suc c) (n - suc c)) 0
+  where
+    head : membersFrom p (0 + c) (suc (n - suc c)) ≡ c ∷ membersFrom p (suc c) (n - suc c)
+    head =
+        ap (λ (i : ℕ). membersFrom p i (suc (n - suc c))) (zero-add c) ∙ members-suc p c (n - suc c)
+        ∙ ap (λ (b : Bool). keep b c (membersFrom p (suc c) (n - suc c))) (T-true (p c) t)
+
+pub count-getD : (n : ℕ) (p : ℕ → Bool) (j : ℕ) → j < length (membersBelow n p) → countBelow (getD (membersBelow n p) j 0) p ≡ j
+count-getD n p j h = go (lt-or-le i j) (lt-or-le j i)
+  where
+    c : ℕ
+    c = getD (membersBelow n p) j 0
+
+    i : ℕ
+    i = countBelow c p
+
+    in-range : (0 ≤ c) × (c < 0 + n) × T (p c)
+    in-range = members-at p 0 n j h
+
+    same : getD (membersBelow n p) i 0 ≡ c
+    same = getD-count n p c (omega (arith, in-range .1)) (in-range .2)
+
+    few : i < length (membersBelow n p)
+    few = omega (arith, count-members n p, count-member n p c (omega (arith, in-range .1)) (in-range .2))
+
+    go : (i < j) ⊎ (j ≤ i) → (j < i) ⊎ (i ≤ j) → i ≡ j
+    go (inl a) b = absurd (omega (arith, members-rising p 0 n i j a h, same))
+    go (inr a) (inl b) = absurd (omega (arith, members-rising p 0 n j i b few, same))
+    go (inr a) (inr b) = omega arith
 
 -- a test of every member of a range
 pub every-members : (f p : ℕ → Bool) (b n : ℕ) → ((i : ℕ) → b ≤ i → i < b + n → T (p i) → f i ≡ true) → every f (membersFrom p b n) ≡ true

@@ -40,6 +40,11 @@ unfoldable pub listFrom : {A : Type 0} → (ℕ → A) → ℕ → ℕ → List 
 listFrom f zero at = []
 listFrom f (suc k) at = f at ∷ listFrom f k (suc at)
 
+-- f 0, then f 1, … , n lists end to end
+unfoldable pub joinBelow : {A : Type 0} → ℕ → (ℕ → List A) → List A
+joinBelow zero f = []
+joinBelow (suc n) f = joinBelow n f ++ f n
+
 -- the first k elements of the answer in the place of the lent list's own
 abbrev pub written : {A : Type 0} → ℕ → List A → List A → List A
 written k answer lent = take k answer ++ drop k lent
@@ -51,3 +56,7 @@ over answer lent = answer ++ drop (length answer) lent
 -- the answer, zero past it up to the needed length, and unchanged past that
 abbrev pub overZeros : List ℕ → ℕ → List ℕ → List ℕ
 overZeros answer needed lent = over (answer ++ replicate (needed - length answer) 0) lent
+
+-- zeros in the places from lo up to hi, the rest unchanged
+abbrev pub zeroed : ℕ → ℕ → List ℕ → List ℕ
+zeroed lo hi lent = take lo lent ++ replicate (hi - lo) 0 ++ drop hi lent

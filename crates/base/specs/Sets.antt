@@ -3,11 +3,15 @@
 use mathlib.Core.Bool.{Bool, true, false, cond, _&&_, _||_}
 use mathlib.Core.List.{List, [], _∷_}
 use Prim.Native.Nat.{ℕ, zero, suc, _+_}
-use lib.Dec.{leb, ltb}
+use lib.Dec.{leb, ltb, eqb}
 
 -- the numbers from lo up to, and without, hi
 abbrev pub between : ℕ → ℕ → ℕ → Bool
 between lo hi i = leb lo i && ltb i hi
+
+-- the set with c in it
+abbrev pub adding : (ℕ → Bool) → ℕ → ℕ → Bool
+adding p c i = p i || eqb c i
 
 -- some number below n passes
 unfoldable pub anyBelow : ℕ → (ℕ → Bool) → Bool

@@ -3,6 +3,7 @@
 ghost use mathlib.Core.Path.{_≡_};
 ghost use Rattle.base.specs.Checks.{plain, wrongLength};
 
+pub mod inner;
 pub mod scan;
 
 // The most rows, columns, nodes, mask bits, layout unknowns.

@@ -1,9 +1,8 @@
 -- What an accepted matrix gives, and the laws of `stored`. Assumes nothing.
 use mathlib.Core.Path.{_≡_, sym, ap, _∙_, subst}
-use mathlib.Core.Bool.{true}
 use mathlib.Core.List.{List, []}
 use mathlib.Core.Logic.{_⊎_, inl, inr}
-use Prim.Native.Nat.{ℕ, zero, suc, _+_, _-_, _≤_, _<_}
+use Prim.Native.Nat.{ℕ, _+_, _≤_, _<_}
 use native.Mathlib.Nat.{le-refl}
 use native.Mathlib.Omega.{arith}
 use borrow.Author.Tests.{leb-true, eqb-true, ltb-true}
@@ -11,33 +10,12 @@ use lib.Dec.{T, leb}
 use lib.Ieee.{Float, nan}
 use lib.ListN.{length, getD, List·getD-eq-default}
 use lib.Seq.{slice, drop-nil}
-use Rattle.base.specs.Checks.{sideLimit, entryLimit}
 use Rattle.base.specs.Lists.{below, isIn}
 use Rattle.base.specs.declared.Checked.{Checked}
 use Rattle.base.proofs.Bools.{lt-or-le}
 use Rattle.base.proofs.Checks.{passed, both-passed}
-use Rattle.base.proofs.Lists.{every-at, pairwise-at, in-slice-at, in-slice-where}
-use Rattle.csr32.specs.Matrix.{finite, matrixCheck, rowOf, stored}
-
--- an accepted matrix, without its values
-pub record IsMatrix (nrows ncols : ℕ) (ptr cols : List ℕ) : Type 0 where
-  pub few-rows : nrows ≤ sideLimit
-  pub few-cols : ncols ≤ sideLimit
-  pub few-entries : length cols ≤ entryLimit
-  pub rows : length ptr ≡ nrows + 1
-  pub starts : getD ptr 0 0 ≡ 0
-  pub ends : getD ptr nrows 0 ≡ length cols
-  pub rises : (r : ℕ) → r < nrows → getD ptr r 0 ≤ getD ptr (r + 1) 0
-  pub inside : (k : ℕ) → k < length cols → getD cols k 0 < ncols
-
--- and its values
-pub record IsValues (cols : List ℕ) (values : List Float) : Type 0 where
-  pub as-many : length values ≡ length cols
-  pub finite-at : (k : ℕ) → k < length values → finite (getD values k nan) ≡ true
-
-pub record Accepts (nrows ncols : ℕ) (ptr cols : List ℕ) (values : List Float) : Type 0 where
-  pub matrix : IsMatrix nrows ncols ptr cols
-  pub entries : IsValues cols values
+use Rattle.base.proofs.Lists.{every-at, pairwise-at, in-slice-at, in-slice-where, rise-to}
+use Rattle.csr32.specs.Matrix.{finite, matrixCheck, rowOf, stored, IsMatrix, Accepts}
 
 pub accepted : (nrows ncols : ℕ) (ptr cols : List ℕ) (values : List Float) → matrixCheck nrows ncols ptr cols values ≡ Checked.Accepted
     → Accepts nrows ncols ptr cols values
@@ -70,17 +48,9 @@ accepted nrows ncols ptr cols values e =
     }
 
 module _ (nrows ncols : ℕ) (ptr cols : List ℕ) (m : IsMatrix nrows ncols ptr cols) where
-  -- pointers never fall, and end at the entry count
-  pub ptr-mono : (r k : ℕ) → r + k ≤ nrows → getD ptr r 0 ≤ getD ptr (r + k) 0
-  ptr-mono r zero h = let e : r + 0 ≡ r = omega arith in subst (λ (x : ℕ). getD ptr r 0 ≤ getD ptr x 0) (sym e) (le-refl (getD ptr r 0))
-  ptr-mono r (suc k) h =
-      let e : r + k + 1 ≡ r + suc k = omega arith in
-      subst (λ (x : ℕ). getD ptr r 0 ≤ getD ptr x 0) e (omega (arith, ptr-mono r k (omega arith), m .rises (r + k) (omega arith)))
-
+  -- no pointer is past the entries
   pub ptr-le : (r : ℕ) → r ≤ nrows → getD ptr r 0 ≤ length cols
-  ptr-le r h =
-      let e : r + (nrows - r) ≡ nrows = omega arith in
-      omega (arith, ptr-mono r (nrows - r) (omega arith), ap (λ (x : ℕ). getD ptr x 0) e, m .ends)
+  ptr-le r h = omega (arith, rise-to ptr nrows (m .rises) r nrows h (le-refl nrows), m .ends)
 
   -- an entry of row r with column c stores the pair, and a stored pair has such an entry
   pub stored-by : (r c k : ℕ) → r < nrows → getD ptr r 0 ≤ k → k < getD ptr (r + 1) 0 → getD cols k 0 ≡ c → T (stored ptr cols r c)

@@ -1,5 +1,6 @@
 -- The check of a matrix, refusals 1 to 8 of document 01 in order, and the pairs that a matrix stores.
-use Prim.Native.Nat.{ℕ, _+_}
+use mathlib.Core.Path.{_≡_}
+use Prim.Native.Nat.{ℕ, _+_, _≤_, _<_}
 use mathlib.Core.Bool.{Bool, true, false}
 use mathlib.Core.List.{List}
 use lib.ListN.{length, getD}
@@ -37,3 +38,23 @@ rowOf ptr cols r = slice (getD ptr r 0) (getD ptr (r + 1) 0) cols
 -- the pair (r, c) is stored: some entry of row r has column c
 unfoldable pub stored : List ℕ → List ℕ → ℕ → ℕ → Bool
 stored ptr cols r c = isIn c (rowOf ptr cols r)
+
+-- an accepted matrix, without its values
+pub record IsMatrix (nrows ncols : ℕ) (ptr cols : List ℕ) : Type 0 where
+  pub few-rows : nrows ≤ sideLimit
+  pub few-cols : ncols ≤ sideLimit
+  pub few-entries : length cols ≤ entryLimit
+  pub rows : length ptr ≡ nrows + 1
+  pub starts : getD ptr 0 0 ≡ 0
+  pub ends : getD ptr nrows 0 ≡ length cols
+  pub rises : (r : ℕ) → r < nrows → getD ptr r 0 ≤ getD ptr (r + 1) 0
+  pub inside : (k : ℕ) → k < length cols → getD cols k 0 < ncols
+
+-- and its values
+pub record IsValues (cols : List ℕ) (values : List Float) : Type 0 where
+  pub as-many : length values ≡ length cols
+  pub finite-at : (k : ℕ) → k < length values → finite (getD values k nan) ≡ true
+
+pub record Accepts (nrows ncols : ℕ) (ptr cols : List ℕ) (values : List Float) : Type 0 where
+  pub matrix : IsMatrix nrows ncols ptr cols
+  pub entries : IsValues cols values

@@ -18,6 +18,7 @@ use Rattle.word.specs.Answers.{on}
 use Rattle.word.specs.declared.Operation.{Operation}
 use Rattle.word.proofs.Bits.{bit-and, lowest, no-bits}
 use Rattle.word.proofs.Turns.{turn-members}
+use Rattle.word.proofs.Answers.{off}
 use Rattle.word.proofs.Words.{word-ext, on-words}
 use Rattle.mask.specs.Mask.{inMask, IsMask}
 use Rattle.mask.specs.Answers.{combined}
@@ -52,11 +53,6 @@ module _ (len : ℕ) (words : List ℕ) (m : IsMask len words) where
       (λ i l u t. omega (arith, is-below len words m i u t))
 
 -- ---- an operation with another mask
-
-off : (o : Operation) → on o false false ≡ false
-off Operation.Union = refl
-off Operation.Intersection = refl
-off Operation.AndNot = refl
 
 pub op-turn : (o : Operation) (len : ℕ) (a b : List ℕ) → IsMask len a → IsMask len b → (w : ℕ) → w < length a
     → wordFrom (λ i. on o (bitAt (getD a w 0) i) (bitAt (getD b w 0) i)) 64 0 ≡ getD (combined (on o) len a b) w 0

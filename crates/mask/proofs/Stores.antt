@@ -13,7 +13,7 @@ use lib.ListN.{length, getD, set, take}
 use lib.Seq.{take-suc}
 use Rattle.base.specs.Lists.{isIn}
 use Rattle.base.specs.Sets.{between}
-use Rattle.base.proofs.Bools.{eq-or-ne, lt-or-le, not-below, and-l, and-r, or-false, T-false}
+use Rattle.base.proofs.Bools.{eqb-swap, eq-or-ne, lt-or-le, not-below, and-l, and-r, or-false, T-false}
 use Rattle.base.proofs.Lists.{in-snoc}
 use Rattle.word.specs.Bits.{bitAt, wordOf}
 use Rattle.word.proofs.Bits.{one-shl, bit-test}
@@ -135,13 +135,6 @@ fill-turn len l k h =
     mask-cong len (λ j. cond (eqb j (getD l k 0)) true (inMask (maskWords len (λ i. isIn i (take k l))) j)) (λ i. isIn i (take (k + 1) l))
     (λ i u. ap (cond (eqb i (getD l k 0)) true) (mask-holds len (λ i. isIn i (take k l)) i u) ∙ turn i)
   where
-    swap : (a b : ℕ) → eqb a b ≡ eqb b a
-    swap a b = go (eq-or-ne a b)
-      where
-        go : (a ≡ b) ⊎ (a ≡ b → ⊥) → eqb a b ≡ eqb b a
-        go (inl e) = eq-eqb a b e ∙ sym (eq-eqb b a (sym e))
-        go (inr n) = ne-eqb a b n ∙ sym (ne-eqb b a (λ e. n (sym e)))
-
     choose : (t b : Bool) → cond t true b ≡ (b || t)
     choose true true = refl
     choose true false = refl
@@ -150,7 +143,7 @@ fill-turn len l k h =
 
     turn : (i : ℕ) → cond (eqb i (getD l k 0)) true (isIn i (take k l)) ≡ isIn i (take (k + 1) l)
     turn i =
-        choose (eqb i (getD l k 0)) (isIn i (take k l)) ∙ ap (λ (t : Bool). isIn i (take k l) || t) (swap i (getD l k 0))
+        choose (eqb i (getD l k 0)) (isIn i (take k l)) ∙ ap (λ (t : Bool). isIn i (take k l) || t) (eqb-swap i (getD l k 0))
         ∙ sym (in-snoc i (take k l) (getD l k 0)) ∙ ap (isIn i) (sym (take-suc l k 0 h) ∙ ap (λ (n : ℕ). take n l) (sym (add-one k)))
 
 -- the bits of word w below a bound: none, all, some

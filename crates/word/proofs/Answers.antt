@@ -101,3 +101,10 @@ select-at m j k b f e q h =
 pub applied : (op : ℕ → ℕ → ℕ) (o told : Operation) (a b : ℕ) → told ≡ o → Bitwise 64 op (on o) → a < 2 ^ 64 → b < 2 ^ 64
     → op a b ≡ wordFrom (λ i. on told (bitAt a i) (bitAt b i)) 64 0
 applied op o told a b e laws p q = op-bits 64 op (on o) laws a b p q ∙ ap (λ (x : Operation). wordFrom (λ i. on x (bitAt a i) (bitAt b i)) 64 0) (sym e)
+
+-- no operation sets a bit that neither word has
+pub off : (o : Operation) → on o false false ≡ false
+off Operation.Union = refl
+off Operation.Intersection = refl
+off Operation.AndNot = refl
+off Operation.Xor = refl

@@ -1,5 +1,5 @@
 -- Laws of a word's bits: the language's own operations, bit by bit, over plain numbers in the shape that a goal has. Assumes nothing.
-use mathlib.Core.Bool.{Bool, false, not, _&&_, _||_}
+use mathlib.Core.Bool.{Bool, false, not, _&&_, _||_, cond}
 use mathlib.Core.List.{List, [], _∷_, map}
 use mathlib.Core.Path.{_≡_, refl, sym, ap, ap₂, subst, _∙_}
 use Prim.Native.Nat.{ℕ, zero, suc, _+_, _-_, _*_, _/_, _%_, _^_, _<_, min, max}
@@ -9,7 +9,7 @@ use native.Mathlib.Nat.{zero-add}
 use native.Mathlib.Omega.{arith}
 use borrow.Author.Tests.{ne-eqb}
 use lib.Arith.{lt-one, digits-mod}
-use lib.Bits.{bitAnd, bitOr, and-step, or-step, and-self, and-mask, and-le-r, and-shr, or-shr, and-high}
+use lib.Bits.{bitAnd, bitOr, and-step, or-step, and-self, and-mask, and-le-r, and-shr, or-shr, and-high, bitXor, differ, xor-step, xor-shr}
 use lib.Count.{ones, onesIn, ones-step, trailingZeros}
 use lib.Dec.{eqb, eqb·suc-suc, eqb·zero-suc, eqb·suc-zero}
 use lib.ListN.{length, length-map}
@@ -187,6 +187,33 @@ bit-and a b i =
     go (suc zero) zero h k = refl
     go (suc zero) (suc zero) h k = refl
     go zero (suc (suc e)) h k = absurd (omega arith)
+    go (suc zero) (suc (suc e)) h k = absurd (omega arith)
+    go (suc (suc d)) e h k = absurd (omega arith)
+
+-- of `a ^ b`
+pub bit-xor : (a b i : ℕ) → bitAt (bitXor a b) i ≡ cond (bitAt a i) (not (bitAt b i)) (bitAt b i)
+unfolding bitAt
+bit-xor a b i =
+    ap (λ (x : ℕ). eqb (x % 2) 1) (xor-shr a b i)
+    ∙ ap (λ (x : ℕ). eqb x 1) (xor-low (a / 2 ^ i) (b / 2 ^ i))
+    ∙ go (a / 2 ^ i % 2) (b / 2 ^ i % 2) (mod-lt (a / 2 ^ i) (zero-lt-suc 1)) (mod-lt (b / 2 ^ i) (zero-lt-suc 1))
+  where
+    small : (d e : ℕ) → d < 2 → e < 2 → differ d e < 2
+    small zero e h k = k
+    small (suc zero) zero h k = h
+    small (suc zero) (suc zero) h k = omega arith
+    small (suc zero) (suc (suc e)) h k = absurd (omega arith)
+    small (suc (suc d)) e h k = absurd (omega arith)
+
+    xor-low : (a b : ℕ) → bitXor a b % 2 ≡ differ (a % 2) (b % 2)
+    xor-low a b =
+        ap (λ (x : ℕ). x % 2) (xor-step a b)
+        ∙ digits-mod (bitXor (a / 2) (b / 2)) (small (a % 2) (b % 2) (mod-lt a (zero-lt-suc 1)) (mod-lt b (zero-lt-suc 1)))
+
+    go : (d e : ℕ) → d < 2 → e < 2 → eqb (differ d e) 1 ≡ cond (eqb d 1) (not (eqb e 1)) (eqb e 1)
+    go zero e h k = refl
+    go (suc zero) zero h k = refl
+    go (suc zero) (suc zero) h k = refl
     go (suc zero) (suc (suc e)) h k = absurd (omega arith)
     go (suc (suc d)) e h k = absurd (omega arith)
 

@@ -1,20 +1,20 @@
 -- Laws of words made from a set: their bits, that bits determine a word, and word operations as set operations. Assumes nothing.
 use mathlib.Core.Path.{_≡_, refl, sym, ap, ap₂, _∙_, subst}
 use mathlib.Core.Logic.{_⊎_, inl, inr, _≢_}
-use mathlib.Core.Bool.{Bool, true, false, not, _&&_, _||_}
+use mathlib.Core.Bool.{Bool, true, false, not, cond, _&&_, _||_}
 use Prim.Native.Nat.{ℕ, zero, suc, _+_, _-_, _*_, _/_, _%_, _^_, _≤_, _<_}
 use native.Mathlib.Omega.{arith}
 use native.Mathlib.Nat.{not-suc-le-zero, lt-of-le-of-lt, lt-of-lt-of-le, div-eq-of-lt, zero-add}
 use borrow.Author.Tests.{eq-eqb, ne-eqb, lt-ltb, le-ltb}
-use lib.Bits.{bitAnd, bitOr, and-le-l, or-lt}
+use lib.Bits.{bitAnd, bitOr, bitXor, and-le-l, or-lt, xor-lt}
 use lib.Count.{ones}
 use lib.Dec.{T, eqb, ltb, eqb→eq}
 use lib.Pow.{pow-mono, pow-lt, pow-pos}
-use Rattle.base.specs.Sets.{one-if, anyBelow, countBelow}
-use Rattle.base.proofs.Bools.{bool-ext, decide, T-false, not-T-of, lt-or-le}
-use Rattle.base.proofs.Sets.{any-i, any-e, any-none, count-cong}
-use Rattle.word.specs.Bits.{bitAt, wordFrom}
-use Rattle.word.proofs.Bits.{bit-zero, bit-suc, bit-or, bit-and, bit-not, bit-pow, zero-bit, ones-count}
+use Rattle.base.specs.Sets.{one-if, adding, anyBelow, sumBelow, countBelow}
+use Rattle.base.proofs.Bools.{bool-ext, decide, T-false, not-T-of, lt-or-le, eqb-swap, or-false}
+use Rattle.base.proofs.Sets.{any-i, any-e, any-none, sum-append, count-cong}
+use Rattle.word.specs.Bits.{bitAt, wordFrom, wordOf}
+use Rattle.word.proofs.Bits.{bit-zero, bit-suc, bit-or, bit-and, bit-xor, bit-not, bit-pow, zero-bit, ones-count}
 
 -- ---- a word and its bits
 
@@ -96,6 +96,22 @@ some-bit k w h ne = go (decide (anyBelow k (bitAt w)))
         (sym (word-of-bits (λ i. false) k 0 w h (λ j hj. sym (T-false (bitAt w j) (λ t. f (any-i k (bitAt w) j hj t)))))
         ∙ word-none (λ i. false) k 0 (λ i l u t. t)))
 
+-- a word that is not 0 holds a number, and one that holds a number is not 0
+pub word-some : (p : ℕ → Bool) (k at : ℕ) → 0 < wordFrom p k at → (i : ℕ) × (at ≤ i) × (i < at + k) × T (p i)
+word-some p k at h =
+    let r : (j : ℕ) × (j < k) × T (bitAt (wordFrom p k at) j) = some-bit k (wordFrom p k at) (word-lt p k at) (λ e. omega arith) in
+    (at + r .0, omega arith, omega arith, subst (λ (b : Bool). T b) (bit-word p k at (r .0) (r .1)) (r .2))
+
+pub word-pos : (p : ℕ → Bool) (k at i : ℕ) → at ≤ i → i < at + k → T (p i) → 0 < wordFrom p k at
+word-pos p k at i l u t = go (wordFrom p k at) refl
+  where
+    here : bitAt (wordFrom p k at) (i - at) ≡ p i
+    here = let e : at + (i - at) ≡ i = omega arith in bit-word p k at (i - at) (omega arith) ∙ ap p e
+
+    go : (m : ℕ) → wordFrom p k at ≡ m → 0 < m
+    go zero e = absurd (not-T-of (p i) (sym here ∙ ap (λ (m : ℕ). bitAt m (i - at)) e ∙ zero-bit (i - at)) t)
+    go (suc m) e = omega arith
+
 -- a word is 0 exactly where it has no bit
 pub word-empty : (k w : ℕ) → w < 2 ^ k → not (eqb w 0) ≡ anyBelow k (bitAt w)
 word-empty k zero h = sym (any-none k (bitAt 0) (λ i l t. not-T-of (bitAt 0 i) (zero-bit i) t))
@@ -122,6 +138,9 @@ and-not-bitwise k = record {
   bits = λ a b i p q l. bit-and a (2 ^ k - 1 - b) i ∙ ap (λ (t : Bool). bitAt a i && t) (bit-not k b i q l);
   fits = λ a b p q. lt-of-le-of-lt (and-le-l a (2 ^ k - 1 - b)) p;
 }
+
+pub xor-bitwise : (k : ℕ) → Bitwise k bitXor (λ s t. cond s (not t) t)
+xor-bitwise k = record { bits = λ a b i p q l. bit-xor a b i; fits = λ a b p q. xor-lt k a b p q }
 
 -- the operation as the word of its bits
 pub op-bits : (k : ℕ) (op : ℕ → ℕ → ℕ) (on : Bool → Bool → Bool) → Bitwise k op on → (a b : ℕ) → a < 2 ^ k → b < 2 ^ k
@@ -166,6 +185,16 @@ word-one at b k h = word-of-bits (λ i. eqb i (at + b)) k at (2 ^ b) (pow-lt h) 
         from : T (eqb j b) → T (eqb (at + j) (at + b))
         from t = let e : at + j ≡ at + b = omega (arith, eqb→eq j b t) in subst (λ (x : Bool). T x) (sym (eq-eqb (at + j) (at + b) e)) tt
 
+-- one number more: in its own word a bit, in another nothing
+pub word-add-same : (p : ℕ → Bool) (w b : ℕ) → b < 64 → wordOf (adding p (64 * w + b)) w ≡ bitOr (wordOf p w) (2 ^ b)
+word-add-same p w b h =
+    sym (word-op 64 bitOr (λ s t. s || t) (or-bitwise 64) p (λ i. eqb (64 * w + b) i) (64 * w))
+    ∙ ap (bitOr (wordOf p w)) (word-ext (λ i. eqb (64 * w + b) i) (λ i. eqb i (64 * w + b)) 64 (64 * w) (λ i l u. eqb-swap (64 * w + b) i) ∙ word-one (64 * w) b 64 h)
+
+pub word-add-other : (p : ℕ → Bool) (w b v : ℕ) → b < 64 → v ≢ w → wordOf (adding p (64 * w + b)) v ≡ wordOf p v
+word-add-other p w b v h ne =
+    word-ext (adding p (64 * w + b)) p 64 (64 * v) (λ i l u. ap (λ (t : Bool). p i || t) (ne-eqb (64 * w + b) i (λ e. ne (omega arith))) ∙ or-false (p i))
+
 -- `(1 << k) - 1` has the bits below k
 pub bit-ones : (k j : ℕ) → bitAt (2 ^ k - 1) j ≡ ltb j k
 bit-ones k j = go (lt-or-le j k)
@@ -194,3 +223,11 @@ word-below at n k h =
         go : (j < n) ⊎ (n ≤ j) → ltb (at + j) (at + n) ≡ ltb j n
         go (inl l) = lt-ltb (at + j) (at + n) (omega arith) ∙ sym (lt-ltb j n l)
         go (inr l) = le-ltb (at + j) (at + n) (omega arith) ∙ sym (le-ltb j n l)
+
+-- a count by words
+pub count-words : (n : ℕ) (p : ℕ → Bool) → sumBelow n (λ w. countBelow 64 (λ j. p (64 * w + j))) ≡ countBelow (64 * n) p
+unfolding sumBelow
+count-words zero p = refl
+count-words (suc n) p =
+    let e : 64 * n + 64 ≡ 64 * suc n = omega arith in
+    ap (λ (x : ℕ). x + countBelow 64 (λ j. p (64 * n + j))) (count-words n p) ∙ sym (sum-append (64 * n) 64 (λ i. one-if (p i))) ∙ ap (λ (m : ℕ). countBelow m p) e

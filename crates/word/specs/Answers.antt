@@ -1,5 +1,5 @@
 -- What the word's methods answer, by document 01's section 'Masks, words, blocks'.
-use mathlib.Core.Bool.{Bool, not, _&&_, _||_}
+use mathlib.Core.Bool.{Bool, not, cond, _&&_, _||_}
 use mathlib.Core.List.{List, [], _∷_}
 use Prim.Native.Nat.{ℕ, zero, suc}
 use lib.Dec.{ltb, leb}
@@ -9,7 +9,7 @@ use Rattle.word.specs.Bits.{bitAt, setBits}
 use Rattle.word.specs.declared.Ranked.{Ranked}
 use Rattle.word.specs.declared.Selected.{Selected}
 use Rattle.word.specs.declared.Operation.{Operation}
-use Rattle.word.specs.declared.Operation.the-variants.{Union, Intersection, AndNot}
+use Rattle.word.specs.declared.Operation.the-variants.{Union, Intersection, AndNot, Xor}
 
 -- past the word no bit is set
 abbrev pub containsAnswer : ℕ → ℕ → Bool
@@ -34,3 +34,4 @@ abbrev pub on : Operation → Bool → Bool → Bool
 on Union s t = s || t
 on Intersection s t = s && t
 on AndNot s t = s && not t
+on Xor s t = cond s (not t) t

@@ -22,6 +22,7 @@ pub enum Operation {
     Union,
     Intersection,
     AndNot,
+    Xor,
 }
 
 impl Operation {
@@ -32,6 +33,7 @@ impl Operation {
             Operation::Union => a | b,
             Operation::Intersection => a & b,
             Operation::AndNot => a & !b,
+            Operation::Xor => a ^ b,
         }
     }
 }

@@ -1,0 +1,2 @@
+pub mod Transpose
+pub mod Places
