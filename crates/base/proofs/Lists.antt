@@ -10,8 +10,8 @@ use native.Mathlib.Omega.{arith}
 use borrow.Author.Tests.{eq-eqb, eqb-true}
 use lib.Dec.{T, eqb, eqb→eq}
 use lib.ListN.{length, getD, set, take, drop, replicate, drop-of-length-le, length-append, length-take, length-drop, length-replicate, take-append-drop, replicate-append-replicate}
-use lib.Seq.{slice, drop-cons, take-suc, length-take-le, set-at, append-snoc, take-all, drop-length, getD-drop, getD-take, length-slice, slice-empty, drop-append-le}
-use Rattle.base.specs.Lists.{every, pairwise, isIn, sameList, listFrom, written, over, zeroed}
+use lib.Seq.{slice, drop-cons, take-suc, take-take, length-take-le, set-at, append-snoc, take-all, drop-length, getD-drop, getD-take, length-slice, slice-empty, drop-append-le, ext-getD}
+use Rattle.base.specs.Lists.{every, pairwise, isIn, sameList, listFrom, written, over, overZeros, zeroed}
 use Rattle.base.proofs.Bools.{and-left, and-right, or-l, or-r, or-e, or-false, T-true, T-false, T-of, both-ways}
 
 -- ---- a loop that tests a list from the front: the test of the whole list is the test of what is left of it
@@ -133,6 +133,10 @@ other-list xs ys n = T-false (sameList xs ys) (λ t. n (list-same xs ys (T-true 
 
 -- ---- parts of a list
 
+-- a list as far as a later place
+pub take-on : (l : List ℕ) (a b : ℕ) → a ≤ b → take b l ≡ take a l ++ slice a b l
+take-on l a b h = sym (take-append-drop a (take b l)) ∙ ap (λ (x : List ℕ). x ++ slice a b l) (take-take a b l h)
+
 pub slice-snoc : (f t : ℕ) (l : List ℕ) → f ≤ t → t < length l → slice f (t + 1) l ≡ slice f t l ++ (getD l t 0 ∷ [])
 slice-snoc f t l h u =
     ap (λ (n : ℕ). drop f (take n l)) (add-one t) ∙ ap (drop f) (take-suc l t 0 u)
@@ -154,6 +158,34 @@ in-slice-where c f t l h m =
     let r : (i : ℕ) × (i < length (slice f t l)) × (getD (slice f t l) i 0 ≡ c) = in-where c (slice f t l) m in
     let b : f + r .0 < t = omega (arith, length-slice f t l h) in
     (f + r .0, omega arith, b, sym (getD-slice f t l (r .0) b) ∙ r .2)
+
+-- a part with one element more, behind it or before it
+pub in-behind : (c f t : ℕ) (l : List ℕ) → f ≤ t → t < length l → isIn c (slice f (t + 1) l) ≡ (isIn c (slice f t l) || eqb (getD l t 0) c)
+in-behind c f t l h u = ap (isIn c) (slice-snoc f t l h u) ∙ in-snoc c (slice f t l) (getD l t 0)
+
+pub in-ahead : (c f t : ℕ) (l : List ℕ) → f < t → t ≤ length l → isIn c (slice f t l) ≡ (isIn c (slice (f + 1) t l) || eqb (getD l f 0) c)
+unfolding isIn
+in-ahead c f t l h u =
+    ap (isIn c) (drop-cons (take t l) f 0 (omega (arith, length-take-le t l u)))
+    ∙ ap₂ (λ (x n : ℕ). eqb x c || isIn c (drop n (take t l))) (getD-take t l f 0 h) (sym (add-one f))
+    ∙ swap (eqb (getD l f 0) c) (isIn c (slice (f + 1) t l))
+  where
+    swap : (a b : Bool) → (a || b) ≡ (b || a)
+    swap true true = refl
+    swap true false = refl
+    swap false b = sym (or-false b)
+
+-- lists that agree up to a place, or from it on
+pub take-same : (l l′ : List ℕ) (n : ℕ) → n ≤ length l → n ≤ length l′ → ((k : ℕ) → k < n → getD l′ k 0 ≡ getD l k 0) → take n l′ ≡ take n l
+take-same l l′ n h h′ e = ext-getD 0 (take n l′) (take n l) (length-take-le n l′ h′ ∙ sym (length-take-le n l h)) each
+  where
+    each : (i : ℕ) → i < length (take n l′) → getD (take n l′) i 0 ≡ getD (take n l) i 0
+    each i a = let b : i < n = omega (arith, length-take-le n l′ h′) in getD-take n l′ i 0 b ∙ e i b ∙ sym (getD-take n l i 0 b)
+
+pub drop-same : (l l′ : List ℕ) (n : ℕ) → length l′ ≡ length l → ((k : ℕ) → n ≤ k → getD l′ k 0 ≡ getD l k 0) → drop n l′ ≡ drop n l
+drop-same l l′ n h e =
+    ext-getD 0 (drop n l′) (drop n l) (length-drop n l′ ∙ ap (λ (m : ℕ). m - n) h ∙ sym (length-drop n l))
+    (λ i a. getD-drop n l′ i 0 ∙ e (n + i) (omega arith) ∙ sym (getD-drop n l i 0))
 
 -- ---- lists made by a rule
 
@@ -224,6 +256,14 @@ module _ (lo : ℕ) (l : List ℕ) where
       ∙ sym (append-snoc (take lo l ++ replicate (i - lo) 0) 0 (drop (suc i) l))
       ∙ ap (λ (x : List ℕ). x ++ drop (suc i) l) (append-assoc (take lo l) (replicate (i - lo) 0) (0 ∷ []) ∙ ap (λ (x : List ℕ). take lo l ++ x) (replicate-append-replicate {A = ℕ} (i - lo) 1 0))
       ∙ ap₂ (λ (a b : ℕ). (take lo l ++ replicate a 0) ++ drop b l) (sym n) (sym (add-one i))
+
+-- zeros past an answer that stands at the front
+pub zero-over : (X o l : List ℕ) (to n : ℕ) → take to l ≡ X → to ≡ length X → to ≤ n → drop n l ≡ drop n o → zeroed to n l ≡ overZeros X n o
+zero-over X o l to n e s h d =
+    let w : length X + (n - length X) ≡ n = omega arith in
+    let long : length (X ++ replicate {A = ℕ} (n - length X) 0) ≡ n =
+    length-append X (replicate {A = ℕ} (n - length X) 0) ∙ ap (λ (k : ℕ). length X + k) (length-replicate {A = ℕ} (n - length X) 0) ∙ w in
+    ap₂ (λ (x y : List ℕ). (x ++ replicate {A = ℕ} (n - to) 0) ++ y) e d ∙ ap₂ (λ (k j : ℕ). (X ++ replicate {A = ℕ} (n - k) 0) ++ drop j o) s (sym long)
 
 -- what is still to come is as it was
 pub put-ahead : {A : Type 0} (X o : List A) (k : ℕ) (d : A) → k < length X → k < length o → getD (written k X o) k d ≡ getD o k d

@@ -6,7 +6,7 @@ use mathlib.Core.List.{List}
 use Prim.Native.Nat.{ℕ, zero, suc, _+_, _-_, _^_, _≤_, _<_}
 use native.Mathlib.Omega.{arith}
 use native.Mathlib.Nat.{le-refl}
-use borrow.Author.Tests.{leb-true, eqb-true, ltb-false, le-leb, lt-ltb, le-ltb, eq-eqb}
+use borrow.Author.Tests.{leb-true, eqb-true, ltb-false, le-leb, lt-ltb, le-ltb, eq-eqb, ltb-true}
 use lib.Dec.{T, leb, eqb, ltb, lt→ltb, ltb→lt}
 use lib.ListN.{length, getD}
 use Rattle.base.specs.Checks.{plain, must, _then_, sideLimit, entryLimit}
@@ -17,7 +17,7 @@ use Rattle.base.proofs.Bools.{and-left, and-right, and-i, T-of, T-true, T-false
 use Rattle.base.proofs.Checks.{passed, both-passed, refused-not-accepted}
 use Rattle.base.proofs.Lists.{pairwise-at, pairwise-i, rise-to}
 use Rattle.base.proofs.Sets.{None, First, first-at, first-is, first-none}
-use Rattle.side.specs.Check.{limitCheck, faultCheck, bitsIn, listsAgree, wordInside, goodWord, rowAt, badAt, wordsFault, sideFault, sideCheck, Rising, IsRows, IsSide}
+use Rattle.side.specs.Check.{limitCheck, faultCheck, sideRoom, bitsIn, listsAgree, wordInside, goodWord, rowAt, badAt, wordsFault, sideFault, sideCheck, Rising, IsRows, IsSide}
 use Rattle.side.specs.declared.Fault.{Fault}
 use Rattle.side.specs.declared.BadWord.{BadWord}
 
@@ -49,6 +49,10 @@ pub word-not-sound : (w : BadWord) → Fault.Word w ≡ Fault.Sound → ⊥
 unfolding code
 word-not-sound w e = let z : _≡_ {A = ℕ} 2 0 = ap code e in omega arith
 
+pub disagree-not-sound : Fault.Disagree ≡ Fault.Sound → ⊥
+unfolding code
+disagree-not-sound e = let z : _≡_ {A = ℕ} 3 0 = ap code e in omega arith
+
 -- ---- the parts of an accepted chain
 
 module _ (nrows ncols : ℕ) (idx masks : List ℕ) (pairs : ℕ) where
@@ -78,6 +82,14 @@ module _ (nrows ncols : ℕ) (idx masks : List ℕ) (pairs : ℕ) where
   unfolding limitCheck must _then_
   limits-pass w =
       rw (le-leb _ _ (w .few-rows), le-leb _ _ (w .few-cols), le-leb _ _ (w .few-indices), le-leb _ _ (w .few-words), le-leb _ _ (w .few-pairs)) refl
+
+-- lists that are long enough
+pub room-passed : (rows words pointers indices masks : ℕ) → sideRoom rows words pointers indices masks ≡ Checked.Accepted → (rows < pointers) × (words ≤ indices) × (words ≤ masks)
+unfolding sideRoom
+room-passed rows words pointers indices masks e =
+    let e1 = both-passed _ _ e in
+    let e2 = both-passed _ _ (e1 .1) in
+    (ltb-true _ _ (passed _ _ (e1 .0)), leb-true _ _ (passed _ _ (e2 .0)), leb-true _ _ (passed _ _ (e2 .1)))
 
 module _ (nrows : ℕ) (ptr idx masks : List ℕ) (pairs : ℕ) where
   -- the six conditions, one after the other
@@ -282,12 +294,12 @@ module _ (nrows ncols : ℕ) (ptr idx masks : List ℕ) (pairs : ℕ) where
       go false t e = absurd (lists-not-sound e)
 
   -- a side within the limits and without fault
-  pub sound-side : Within nrows ncols idx masks pairs → ((k : ℕ) → getD masks k 0 < 2 ^ 64) → sideFault nrows ncols ptr idx masks pairs ≡ Fault.Sound → IsSide nrows ncols ptr idx masks × (pairs ≡ bitsIn masks 0 (length masks))
-  sound-side w fits e = (
+  pub sound-side : nrows ≤ sideLimit → ncols ≤ sideLimit → length masks ≤ entryLimit → pairs ≤ entryLimit → ((k : ℕ) → getD masks k 0 < 2 ^ 64) → sideFault nrows ncols ptr idx masks pairs ≡ Fault.Sound → IsSide nrows ncols ptr idx masks × (pairs ≡ bitsIn masks 0 (length masks))
+  sound-side few-rows few-cols few-words few-pairs fits e = (
     record {
       shape = m;
-      few-cols = w .few-cols;
-      few-pairs = omega (arith, count, w .few-pairs);
+      few-cols = few-cols;
+      few-pairs = omega (arith, count, few-pairs);
       rising = λ r h. rises-all idx (getD ptr r 0) (getD ptr (r + 1) 0) (λ k a b. good-rises ncols idx masks (getD ptr r 0) k (good r k h (omega arith) b) a);
       used = λ k h. let q = row-of nrows ncols ptr idx masks m k h in good-used ncols idx masks (getD ptr (q .0) 0) k (good (q .0) k (q .1) (q .2) (q .3));
       fits = λ k h. fits k;
@@ -300,7 +312,7 @@ module _ (nrows ncols : ℕ) (ptr idx masks : List ℕ) (pairs : ℕ) where
       parts = fault-parts e
 
       m : IsRows nrows ptr idx masks
-      m = agree-rows nrows ptr idx masks pairs (parts .0) (w .few-rows) (w .few-words)
+      m = agree-rows nrows ptr idx masks pairs (parts .0) few-rows few-words
 
       count : bitsIn masks 0 (length masks) ≡ pairs
       count = agree-count nrows ptr idx masks pairs (parts .0)
@@ -319,7 +331,8 @@ module _ (nrows ncols : ℕ) (ptr idx masks : List ℕ) (pairs : ℕ) where
   unfolding sideCheck
   accepted-side fits e =
       let q = both-passed _ _ e in
-      sound-side (limits-passed nrows ncols idx masks pairs (q .0)) fits (sound-only _ (q .1))
+      let w = limits-passed nrows ncols idx masks pairs (q .0) in
+      sound-side (w .few-rows) (w .few-cols) (w .few-words) (w .few-pairs) fits (sound-only _ (q .1))
 
   -- and conversely
   pub side-sound : IsSide nrows ncols ptr idx masks → pairs ≡ bitsIn masks 0 (length masks) → sideFault nrows ncols ptr idx masks pairs ≡ Fault.Sound
@@ -345,3 +358,7 @@ module _ (nrows ncols : ℕ) (ptr idx masks : List ℕ) (pairs : ℕ) where
         few-words = m .shape .few-words;
         few-pairs = omega (arith, m .few-pairs);
       })) (sound-accepted (sideFault nrows ncols ptr idx masks pairs) (side-sound m e))
+
+-- a side under sizes that are equal to its own
+pub side-as : (nrows ncols nrows′ ncols′ : ℕ) (ptr idx masks : List ℕ) → nrows ≡ nrows′ → ncols ≡ ncols′ → IsSide nrows ncols ptr idx masks → IsSide nrows′ ncols′ ptr idx masks
+side-as nrows ncols nrows′ ncols′ ptr idx masks a b m = subst (λ (n : ℕ). IsSide n ncols′ ptr idx masks) a (subst (λ (n : ℕ). IsSide nrows n ptr idx masks) b m)

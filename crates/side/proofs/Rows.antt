@@ -11,13 +11,18 @@ use lib.Seq.{slice, ext-getD, length-slice}
 use Rattle.base.specs.Sets.{sumBelow, countBelow, membersBelow}
 use Rattle.base.proofs.Bools.{T-not-zero, not-zero-T, T-false}
 use Rattle.base.proofs.Lists.{getD-slice, getD-map}
-use Rattle.base.proofs.Sets.{sum-cong, sum-members, sum-none, count-cong, count-past, members-at, members-rising, members-find, members-unique}
+use Rattle.base.proofs.Sets.{sum-cong, sum-members, sum-none, count-cong, count-past, members-at, members-rising, members-find, members-le, members-unique}
 use Rattle.word.specs.Bits.{bitAt, wordOf}
 use Rattle.word.proofs.Words.{bit-word, word-some, word-pos, count-words}
 use Rattle.mask.specs.Mask.{wordsFor}
 use Rattle.side.specs.Side.{rowWords, rowMasks}
 use Rattle.side.specs.Check.{bitsIn}
 use Rattle.side.specs.Row.{Row}
+
+-- a row has no more words than fit its columns
+pub words-few : (ncols : ℕ) (p : ℕ → Bool) → length (rowWords ncols p) ≤ wordsFor ncols
+unfolding rowWords
+words-few ncols p = members-le _ 0 (wordsFor ncols)
 
 module _ (p : ℕ → Bool) (ncols : ℕ) (idx masks : List ℕ) (from to : ℕ) (row : Row p idx masks from to)
     (h : from ≤ to) (hi : to ≤ length idx) (hm : to ≤ length masks) (small : (c : ℕ) → T (p c) → c < ncols) where

@@ -8,12 +8,12 @@ use native.Mathlib.Omega.{arith}
 use native.Mathlib.Nat.{le-refl, zero-add}
 use native.Mathlib.Numerals.{add-one}
 use lib.Dec.{T, ltb, lt→ltb}
-use lib.ListN.{length, getD, take, length-map, take-append-drop, List·getD-eq-default}
-use lib.Seq.{slice, take-take, take-length, length-take-le, ext-getD, drop-nil}
+use lib.ListN.{length, getD, take, length-map, List·getD-eq-default}
+use lib.Seq.{slice, take-length, length-take-le, ext-getD, drop-nil}
 use Rattle.base.specs.Checks.{sideLimit, entryLimit}
 use Rattle.base.specs.Sets.{sumBelow, countBelow}
 use Rattle.base.proofs.Bools.{T-true, or-l, or-r, decide, lt-or-le}
-use Rattle.base.proofs.Lists.{length-listFrom, getD-listFrom, rise-to}
+use Rattle.base.proofs.Lists.{take-on, length-listFrom, getD-listFrom, rise-to}
 use Rattle.base.proofs.Joins.{join-none, join-next, join-slice, join-up, join-length}
 use Rattle.base.proofs.Sets.{every-i, sum-zero, sum-suc, sum-append, sum-cong, sum-most, count-le}
 use Rattle.word.specs.Bits.{bitAt, wordOf}
@@ -62,9 +62,6 @@ module _ (ncols : ℕ) (s : ℕ → ℕ → Bool) (idx masks : List ℕ) (ends :
     (first : ends 0 ≡ 0) (up : (r : ℕ) → r < n → ends r ≤ ends (r + 1))
     (room : (r : ℕ) → r ≤ n → ends r ≤ length idx) (room′ : (r : ℕ) → r ≤ n → ends r ≤ length masks)
     (rows : (r : ℕ) → r < n → Row (s r) idx masks (ends r) (ends (r + 1))) (small : (r c : ℕ) → r < n → T (s r c) → c < ncols) where
-  take-on : (l : List ℕ) (a b : ℕ) → a ≤ b → take b l ≡ take a l ++ slice a b l
-  take-on l a b h = sym (take-append-drop a (take b l)) ∙ ap (λ (x : List ℕ). x ++ slice a b l) (take-take a b l h)
-
   -- the words of the first r rows, their masks, and their pairs
   pub words-to : (r : ℕ) → r ≤ n → take (ends r) idx ≡ sideWords r ncols s
   words-to zero h = ap (λ (k : ℕ). take k idx) first ∙ sym (join-none (λ r. rowWords ncols (s r)))

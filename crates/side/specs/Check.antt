@@ -74,6 +74,10 @@ sideFault nrows ncols ptr idx masks pairs = cond (listsAgree nrows ptr idx masks
 unfoldable pub sideCheck : ℕ → ℕ → List ℕ → List ℕ → List ℕ → ℕ → Checked
 sideCheck nrows ncols ptr idx masks pairs = limitCheck nrows ncols idx masks pairs then faultCheck (sideFault nrows ncols ptr idx masks pairs)
 
+-- 25: what the lists of a side of `rows` rows and at most `words` words need, against the lengths that they have
+unfoldable pub sideRoom : ℕ → ℕ → ℕ → ℕ → ℕ → Checked
+sideRoom rows words pointers indices masks = must (ltb rows pointers) 25 then must (leb words indices) 25 then must (leb words masks) 25
+
 -- ---- what an accepted side is
 
 -- strictly rising at from..to

@@ -1,3 +1,4 @@
 pub mod Side
 pub mod Check
 pub mod Row
+pub mod Built

@@ -14,7 +14,7 @@ ghost use Rattle.base.specs.Checks.{sideLimit, entryLimit};
 ghost use Rattle.base.specs.Sets.{firstBelow, countBelow, membersBelow};
 ghost use Rattle.word.specs.Answers.{entry};
 ghost use Rattle.side.specs.Side.{rowWords, rowHolds, sideHolds, wordAt};
-ghost use Rattle.side.specs.Check.{limitCheck, bitsIn, wordInside, goodWord, wordsFault, sideFault, Rising, IsRows, IsSide};
+ghost use Rattle.side.specs.Check.{limitCheck, sideRoom, bitsIn, wordInside, goodWord, wordsFault, sideFault, Rising, IsRows, IsSide};
 ghost use Rattle.side.specs.Row.{lowerIn, IsRow, Inside};
 
 // Refusal 1 of one side.
@@ -41,6 +41,28 @@ pub fn check_limits(
     }
     if structural_nnz > base::ENTRY_LIMIT {
         return base::refused(1);
+    }
+    Checked::Accepted
+}
+
+// Refusal 25 of a side that is written.
+pub fn check_room(
+    rows: usize,
+    words: usize,
+    pointers: usize,
+    indices: usize,
+    masks: usize,
+) -> Checked
+    ensures { λ r. ⌜ r ≡ sideRoom rows words pointers indices masks ⌝ }
+{
+    if rows >= pointers {
+        return base::refused(25);
+    }
+    if words > indices {
+        return base::refused(25);
+    }
+    if words > masks {
+        return base::refused(25);
     }
     Checked::Accepted
 }

@@ -1,1 +1,2 @@
 pub mod Ratios
+pub mod Rooms

@@ -1,0 +1,44 @@
+-- The columns side by way of the transpose, the scratch that is zero again, and what the checks of a building have passed. Assumes nothing.
+use mathlib.Core.Path.{_≡_, sym, ap, _∙_, fun-ext}
+use mathlib.Core.List.{List, _++_}
+use Prim.Native.Nat.{ℕ, _+_, _-_, _≤_, _<_}
+use native.Mathlib.Omega.{arith}
+use borrow.Author.Tests.{ltb-true, leb-true}
+use lib.Ieee.{Float}
+use lib.ListN.{length, take, drop, replicate, length-replicate}
+use lib.Seq.{length-take-le}
+use Rattle.base.specs.Lists.{over, zeroed}
+use Rattle.base.specs.declared.Checked.{Checked}
+use Rattle.base.proofs.Checks.{both-passed, passed}
+use Rattle.csr32.specs.Matrix.{stored, IsMatrix}
+use Rattle.csr32.proofs.Matrix.{accepted}
+use Rattle.transpose.specs.Transpose.{Transposed}
+use Rattle.side.specs.Side.{flip}
+use Rattle.side.proofs.Accepted.{room-passed}
+use Rattle.dual_topology.specs.Answers.{buildCheck}
+
+module _ (nrows ncols : ℕ) (ptr cols starts order starts′ order′ : List ℕ) (t : Transposed nrows ncols ptr cols starts order starts′ order′) where
+  pub flipped : stored (take (ncols + 1) starts′) (take (length cols) order′) ≡ flip (stored ptr cols)
+  flipped = fun-ext (λ c. fun-ext (λ r. t .turned c r))
+
+  pub part-long : length cols ≤ length order → length (take (length cols) order′) ≡ length cols
+  part-long h = length-take-le (length cols) order′ (omega (arith, t .order-long))
+
+-- zeros over the front of what was unchanged past it
+pub zero-again : (n : ℕ) (l l′ l″ : List ℕ) → drop n l′ ≡ drop n l → l″ ≡ zeroed 0 n l′ → l″ ≡ over (replicate n 0) l
+zero-again n l l′ l″ d e =
+    let z : n - 0 ≡ n = omega arith in
+    e ∙ ap (λ (k : ℕ). replicate k 0 ++ drop n l′) z ∙ ap (λ (x : List ℕ). replicate n 0 ++ x) d ∙ ap (λ (k : ℕ). replicate n 0 ++ drop k l) (sym (length-replicate {A = ℕ} n 0))
+
+pub build-passed : (nrows ncols : ℕ) (ptr cols : List ℕ) (values : List Float) (rptr ridx rmasks cptr cidx cmasks starts order : List ℕ)
+    → buildCheck nrows ncols ptr cols values rptr ridx rmasks cptr cidx cmasks starts order ≡ Checked.Accepted
+    → IsMatrix nrows ncols ptr cols × ((nrows < length rptr) × (length cols ≤ length ridx) × (length cols ≤ length rmasks) × (ncols < length cptr) × (length cols ≤ length cidx) × (length cols ≤ length cmasks) × (ncols < length starts) × (length cols ≤ length order))
+unfolding buildCheck
+build-passed nrows ncols ptr cols values rptr ridx rmasks cptr cidx cmasks starts order e =
+    let e1 = both-passed _ _ e in
+    let e2 = both-passed _ _ (e1 .1) in
+    let e3 = both-passed _ _ (e2 .1) in
+    let e4 = both-passed _ _ (e3 .1) in
+    let r = room-passed nrows (length cols) (length rptr) (length ridx) (length rmasks) (e2 .0) in
+    let c = room-passed ncols (length cols) (length cptr) (length cidx) (length cmasks) (e3 .0) in
+    (accepted nrows ncols ptr cols values (e1 .0) .matrix, (r .0, r .1, r .2, c .0, c .1, c .2, ltb-true _ _ (passed _ _ (e4 .0)), leb-true _ _ (passed _ _ (e4 .1))))

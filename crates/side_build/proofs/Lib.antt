@@ -1,0 +1,4 @@
+pub mod Gaps
+pub mod Adding
+pub mod Building
+pub mod Sides

@@ -1,0 +1,4 @@
+pub mod Growing
+pub mod Taking
+pub mod Merging
+pub mod Rows
