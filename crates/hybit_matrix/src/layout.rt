@@ -10,7 +10,7 @@ ghost use Rattle.dof_layout.specs.Layout.{layoutCheck};
 ghost use Rattle.dof_layout.specs.Answers.{kindAnswer, newAnswer, newOffsets, totalAnswer, rangeAnswer, locateAnswer, squareCheck, fieldAnswer, fieldWords};
 ghost use Rattle.hybit_matrix.specs.Flat.{flatChecked, flatCounted, flatKinded, pairRefused, pairWith, pairNone, flatRanged, flatLocated};
 
-fn pair_refused(r: Refusal) -> PairAnswer
+pub(crate) fn pair_refused(r: Refusal) -> PairAnswer
     ensures { λ a. ⌜ a ≡ pairRefused r ⌝ }
 {
     PairAnswer {
@@ -23,7 +23,7 @@ fn pair_refused(r: Refusal) -> PairAnswer
     }
 }
 
-fn pair_with(first: u64, second: u64) -> PairAnswer
+pub(crate) fn pair_with(first: u64, second: u64) -> PairAnswer
     ensures { λ a. ⌜ a ≡ pairWith first second ⌝ }
 {
     PairAnswer {
@@ -36,7 +36,7 @@ fn pair_with(first: u64, second: u64) -> PairAnswer
     }
 }
 
-fn pair_none() -> PairAnswer
+pub(crate) fn pair_none() -> PairAnswer
     ensures { λ a. ⌜ a ≡ pairNone ⌝ }
 {
     PairAnswer {

@@ -17,7 +17,9 @@ ghost use Rattle.mask.specs.Mask.{maskCheck};
 ghost use Rattle.mask.specs.Answers.{newCheck, newWords, fromCheck, fromWords, emptyAnswer, countAnswer, containsAnswer, setCheck, setWords, pairCheck, combinedWords, union, intersection, andNot, intersectsAnswer, indicesAnswer, indicesList, orWordWords};
 ghost use Rattle.hybit_matrix.specs.Flat.{refusedWith, answeredWith, answeredNone, flatChecked, flatTruth, flatCounted, flatRanked, flatSelected};
 
+pub mod both_sides;
 pub mod layout;
+pub mod one_side;
 
 // number: the refusal's number, or 0. present: there is an answer (false after a refusal, and where the answer is none).
 // value: the count, the bit, or 1 for yes and 0 for no.
