@@ -2,7 +2,7 @@
 
 /// So many values at most in an answer. The port's records differ in theirs;
 /// those that a record lacks are 0 here.
-pub const VALUES: usize = 2;
+pub const VALUES: usize = 8;
 
 /// The fields of all of the port's records.
 #[derive(Clone, Copy, Debug, PartialEq, Eq)]
@@ -13,6 +13,7 @@ pub struct Answer {
     pub present: bool,
     pub expected: u64,
     pub actual: u64,
+    /// Those that are f64 by their bits.
     pub values: [u64; VALUES],
 }
 
@@ -36,6 +37,59 @@ impl From<hybit_port::PairAnswer> for Answer {
             expected: flat.expected,
             actual: flat.actual,
             ..Self::told_all(&[flat.first, flat.second])
+        }
+    }
+}
+
+impl From<hybit_port::BuildAnswer> for Answer {
+    fn from(flat: hybit_port::BuildAnswer) -> Self {
+        Self {
+            number: flat.number,
+            present: flat.present,
+            expected: flat.expected,
+            actual: flat.actual,
+            ..Self::told_all(&[flat.row_words, flat.column_words, flat.pairs])
+        }
+    }
+}
+
+impl From<hybit_port::TopologyStatsAnswer> for Answer {
+    fn from(flat: hybit_port::TopologyStatsAnswer) -> Self {
+        Self {
+            number: flat.number,
+            present: flat.present,
+            expected: flat.expected,
+            actual: flat.actual,
+            ..Self::told_all(&[
+                flat.nrows,
+                flat.ncols,
+                flat.structural_nnz,
+                flat.nonempty_words,
+                flat.metadata_bytes,
+                flat.average_word_nnz.to_bits(),
+                flat.word_fill_ratio.to_bits(),
+                flat.metadata_bytes_per_nnz.to_bits(),
+            ])
+        }
+    }
+}
+
+impl From<hybit_port::DualStatsAnswer> for Answer {
+    fn from(flat: hybit_port::DualStatsAnswer) -> Self {
+        Self {
+            number: flat.number,
+            present: flat.present,
+            expected: flat.expected,
+            actual: flat.actual,
+            ..Self::told_all(&[
+                flat.nrows,
+                flat.ncols,
+                flat.structural_nnz,
+                flat.row_metadata_bytes,
+                flat.column_metadata_bytes,
+                flat.total_metadata_bytes,
+                flat.metadata_bytes_per_nnz.to_bits(),
+            ])
         }
     }
 }

@@ -15,14 +15,14 @@ use crate::answer::Answer;
 /// 01: "side, mask length, node count or layout total over 1,048,576".
 pub const SIDE_LIMIT: usize = 1_048_576;
 
-/// 01: "either entry list [..] over 16,777,216".
+/// 01: "either entry list, a topology's words or pairs [..] over 16,777,216".
 pub const ENTRY_LIMIT: usize = 16_777_216;
 
 /// 01 takes the Rust on a 64-bit machine as the reference.
 const _: () = assert!(usize::BITS == 64);
 
 /// The number that 01 gives to an error of the Rust.
-const NUMBERS: [(&str, u32); 14] = [
+const NUMBERS: [(&str, u32); 17] = [
     ("row_ptr length must equal nrows + 1", 2),
     ("col_idx and values lengths differ", 3),
     ("row_ptr[0] must be zero", 4),
@@ -37,6 +37,26 @@ const NUMBERS: [(&str, u32); 14] = [
     ("duplicate DOF entity/field block", 16),
     ("unknown DOF entity kind", 17),
     ("square matrix dimensions disagree with DOF layout", 18),
+    ("ABTM topology row index out of range", 13),
+    ("ABTM topology row rank column out of range", 13),
+    ("ABTM topology dimensions differ", 22),
+];
+
+/// The errors of 9: those of `AbtmTopology::validate` and the two that
+/// `AbtmDualTopology::validate` has of its own, in the order of their tests.
+pub const TOPOLOGY_FAULTS: [&str; 12] = [
+    "ABTM topology row pointer length is invalid",
+    "ABTM topology row pointer must start at zero",
+    "ABTM topology word/mask lengths differ",
+    "ABTM topology row pointer terminal offset is invalid",
+    "ABTM topology row pointer is not monotone",
+    "ABTM topology stores an empty word",
+    "ABTM topology row words are not strictly increasing",
+    "ABTM topology word starts beyond matrix columns",
+    "ABTM topology has bits beyond matrix columns",
+    "ABTM topology structural nnz is inconsistent",
+    "ABTM dual topology transpose dimensions are inconsistent",
+    "ABTM dual topology transpose nnz is inconsistent",
 ];
 
 pub fn refusal(error: HybitError) -> Answer {
@@ -49,6 +69,9 @@ pub fn refusal(error: HybitError) -> Answer {
             panic!("01 has no number for {error:?}")
         }
     };
+    if TOPOLOGY_FAULTS.contains(&text) {
+        return Answer::refused(9);
+    }
     match NUMBERS.iter().find(|(known, _)| *known == text) {
         Some(&(_, number)) => Answer::refused(number),
         None => panic!("01 has no number for {text:?}"),

@@ -7,6 +7,7 @@
 mod csr32;
 mod layout;
 mod mask;
+mod topology;
 mod word;
 
 use crate::answer::Answer;
@@ -131,6 +132,7 @@ groups! {
     Csr32(csr32),
     Mask(mask),
     Layout(layout),
+    Topology(topology),
 }
 
 pub fn named(name: &str) -> Option<&'static Group> {

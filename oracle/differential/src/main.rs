@@ -1,12 +1,13 @@
 //! Compares the port with the original Rust, call by call.
 //!
 //! ```text
-//! differential                       fixed cases and fixed seeds
-//! differential only GROUP            the same for one group of calls
-//! differential soak SECONDS [SEED]   random cases for so long
-//! differential record FOLDER         writes recorded answers
-//! differential record-layout FOLDER  writes those of the calls on layouts
-//! differential self-test             wrong expectations must be reported
+//! differential                         fixed cases and fixed seeds
+//! differential only GROUP              the same for one group of calls
+//! differential soak SECONDS [SEED]     random cases for so long
+//! differential record FOLDER           writes recorded answers
+//! differential record-layout FOLDER    writes those of the calls on layouts
+//! differential record-topology FOLDER  writes those of the calls on topologies
+//! differential self-test               wrong expectations must be reported
 //! ```
 
 mod answer;

@@ -1,5 +1,9 @@
-//! The port's exported functions as C sees them, and the two flat records
-//! that they answer with. Slices pass as a pointer and a length.
+//! The port's exported functions as C sees them, and the flat records that
+//! they answer with. Slices pass as a pointer and a length.
+
+mod topology;
+
+pub use topology::*;
 
 #[repr(C)]
 #[derive(Clone, Copy)]
@@ -14,8 +18,8 @@ pub struct Answer {
     pub value: u64,
 }
 
-/// The same with two values: a block's start and end, or its index and a
-/// component.
+/// The same with two values: a block's start and end, its index and a
+/// component, a word's index and mask, or how many words and pairs.
 #[repr(C)]
 #[derive(Clone, Copy)]
 pub struct PairAnswer {

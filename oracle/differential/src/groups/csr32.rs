@@ -6,6 +6,10 @@ mod fixed;
 mod random;
 mod values;
 
+pub use expected::accepted;
+pub use fixed::lists;
+pub use random::damage;
+
 use super::{Function, GroupCall, GroupCalls};
 use crate::answer::Answer;
 use crate::parts::List::{F64, U32};
@@ -53,12 +57,7 @@ impl GroupCall for Call {
 
     fn parts(&mut self) -> Parts<'_> {
         let Call::Validate(matrix) = self;
-        Parts::new()
-            .number("nrows", matrix.nrows as u64)
-            .number("ncols", matrix.ncols as u64)
-            .read("row_ptr", U32(&mut matrix.row_ptr))
-            .read("col_idx", U32(&mut matrix.col_idx))
-            .read("values (bits)", F64(&mut matrix.values))
+        matrix.parts()
     }
 
     fn ask_port(&mut self) -> Answer {
@@ -80,6 +79,17 @@ impl GroupCall for Call {
     fn expect(&mut self) -> Result<Answer, Answer> {
         let Call::Validate(matrix) = self;
         expected::validate(matrix)
+    }
+}
+
+impl Matrix {
+    pub fn parts(&mut self) -> Parts<'_> {
+        Parts::new()
+            .number("nrows", self.nrows as u64)
+            .number("ncols", self.ncols as u64)
+            .read("row_ptr", U32(&mut self.row_ptr))
+            .read("col_idx", U32(&mut self.col_idx))
+            .read("values (bits)", F64(&mut self.values))
     }
 }
 

@@ -3,8 +3,12 @@
 use crate::compare::Outcome;
 use crate::groups::{Call, Group, named, place};
 
-/// At most so many elements in a recorded list.
-pub const LIST: usize = 16;
+/// At most so many elements in most of the recorded lists.
+const LIST: usize = 16;
+
+/// The same of the lists with one element for each column of a topology; a
+/// multiple of LIST, so that such a list can be read in parts.
+const LONG: usize = 144;
 
 /// The formats, each with the argument that asks for it.
 pub static FORMATS: &[Format] = &[
@@ -12,9 +16,9 @@ pub static FORMATS: &[Format] = &[
         argument: "record",
         groups: &["word", "csr32", "mask"],
         numbers: 4,
-        lists: 3,
+        lists: &[LIST; 3],
         values: 1,
-        written: 1,
+        written: &[LIST],
         accepted: 20,
         refused: 9,
         seed: 3,
@@ -23,24 +27,43 @@ pub static FORMATS: &[Format] = &[
         argument: "record-layout",
         groups: &["layout"],
         numbers: 4,
-        lists: 6,
+        lists: &[LIST; 6],
         values: 2,
-        written: 1,
+        written: &[LIST],
         accepted: 16,
         refused: 5,
         seed: 4,
+    },
+    // A call has up to three groups of three lists: pointers, word numbers or
+    // columns, masks or values. They are a matrix or a side; the second side,
+    // the columns or what is written; and what is written. Building both sides
+    // then takes two lists of scratch. The pointers of the columns are long,
+    // wherever they stand, and so is the first list of scratch.
+    Format {
+        argument: "record-topology",
+        groups: &["topology"],
+        numbers: 9,
+        lists: &[
+            LIST, LIST, LIST, LONG, LIST, LIST, LONG, LIST, LIST, LONG, LIST,
+        ],
+        values: 8,
+        written: &[LIST, LIST, LIST, LONG, LIST, LIST, LONG, LIST],
+        accepted: 4,
+        refused: 1,
+        seed: 5,
     },
 ];
 
 pub struct Format {
     pub argument: &'static str,
     groups: &'static [&'static str],
-    /// Room for so many numbers and lists in a recorded call.
+    /// Room for so many numbers in a recorded call, and the room of each list.
     numbers: usize,
-    lists: usize,
-    /// Room for so many values and written lists in a recorded answer.
+    lists: &'static [usize],
+    /// Room for so many values in a recorded answer, and the room of each list
+    /// that the call may write.
     values: usize,
-    written: usize,
+    written: &'static [usize],
     /// How many calls of each kind are recorded.
     pub accepted: usize,
     pub refused: usize,
@@ -60,6 +83,14 @@ impl Format {
         u8::try_from(place + 1).expect("fewer than 256 functions")
     }
 
+    /// Is there room for the call?
+    pub fn fits(&self, call: &mut Call) -> bool {
+        let parts = call.inner_mut().parts();
+        let lists: Vec<usize> = parts.lists.iter().map(|(_, list)| list.len()).collect();
+        let written: Vec<usize> = parts.written.iter().map(|&list| lists[list]).collect();
+        fit(&lists, self.lists) && fit(&written, self.written)
+    }
+
     /// The code, 7 zero bytes, the numbers, the lists' lengths, the lists.
     pub fn call_bytes(&self, call: &mut Call) -> Vec<u8> {
         let mut bytes = vec![self.code(call)];
@@ -69,7 +100,7 @@ impl Format {
         let lists: Vec<Vec<u64>> = parts.lists.iter().map(|(_, list)| list.widened()).collect();
         let lengths: Vec<u64> = lists.iter().map(|list| list.len() as u64).collect();
         append(&mut bytes, &numbers, self.numbers);
-        append(&mut bytes, &lengths, self.lists);
+        append(&mut bytes, &lengths, self.lists.len());
         append_lists(&mut bytes, &lists, self.lists);
         bytes
     }
@@ -101,13 +132,19 @@ impl Format {
     }
 }
 
-/// Each list over the room of one, then zeros up to the room of `room` lists.
-fn append_lists(bytes: &mut Vec<u8>, lists: &[Vec<u64>], room: usize) {
-    assert!(lists.len() <= room, "no room for {lists:?}");
-    for list in lists {
-        append(bytes, list, LIST);
+fn fit(lengths: &[usize], rooms: &[usize]) -> bool {
+    let pairs = lengths.iter().zip(rooms);
+    lengths.len() <= rooms.len() && pairs.into_iter().all(|(length, room)| length <= room)
+}
+
+/// Each list over its room, then zeros over the rooms that are left.
+fn append_lists(bytes: &mut Vec<u8>, lists: &[Vec<u64>], rooms: &[usize]) {
+    assert!(lists.len() <= rooms.len(), "no room for {lists:?}");
+    let none = vec![];
+    let lists = lists.iter().chain(std::iter::repeat(&none));
+    for (list, &room) in lists.zip(rooms) {
+        append(bytes, list, room);
     }
-    append(bytes, &[], (room - lists.len()) * LIST);
 }
 
 /// The numbers in little-endian order, then zeros up to `room` numbers.

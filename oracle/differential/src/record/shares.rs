@@ -2,7 +2,7 @@
 
 use std::collections::BTreeMap;
 
-use super::format::{Format, LIST};
+use super::format::Format;
 use crate::compare::expected;
 use crate::groups::Call;
 
@@ -24,7 +24,7 @@ impl<'format> Shares<'format> {
     }
 
     pub fn offer(&mut self, mut call: Call) {
-        if !fits(&mut call) {
+        if !self.format.fits(&mut call) {
             return;
         }
         let answer = expected(&call).answer;
@@ -47,9 +47,4 @@ impl<'format> Shares<'format> {
     pub fn taken(self) -> Vec<Call> {
         self.taken.into_values().flatten().collect()
     }
-}
-
-fn fits(call: &mut Call) -> bool {
-    let lists = call.inner_mut().parts().lists;
-    lists.iter().all(|(_, list)| list.len() <= LIST)
 }

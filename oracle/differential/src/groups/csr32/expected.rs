@@ -7,6 +7,12 @@ use crate::answer::Answer;
 use crate::expected::{ENTRY_LIMIT, SIDE_LIMIT, refusal};
 
 pub fn validate(matrix: &Matrix) -> Result<Answer, Answer> {
+    accepted(matrix)?;
+    Ok(Answer::done())
+}
+
+/// The original's matrix, or the refusal.
+pub fn accepted(matrix: &Matrix) -> Result<Csr32Matrix, Answer> {
     check_limits(matrix)?;
     Csr32Matrix::new(
         matrix.nrows,
@@ -15,8 +21,7 @@ pub fn validate(matrix: &Matrix) -> Result<Answer, Answer> {
         matrix.col_idx.clone(),
         matrix.values.clone(),
     )
-    .map_err(refusal)?;
-    Ok(Answer::done())
+    .map_err(refusal)
 }
 
 /// Added refusal 1 of a matrix.

@@ -31,7 +31,7 @@ fn small(run: &mut dyn FnMut(Call)) {
 }
 
 /// All lists of up to `longest` elements of `choice`.
-fn lists<T: Copy>(longest: usize, choice: &[T]) -> Vec<Vec<T>> {
+pub fn lists<T: Copy>(longest: usize, choice: &[T]) -> Vec<Vec<T>> {
     let mut all = vec![vec![]];
     let mut start = 0;
     for _ in 0..longest {

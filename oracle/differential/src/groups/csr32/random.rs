@@ -47,7 +47,7 @@ fn finite(rng: &mut Rng) -> f64 {
 
 /// One fault; the number is the refusal it leads to if no other comes first.
 /// Some are without effect, where the list is too short for them.
-fn damage(rng: &mut Rng, matrix: &mut Matrix) {
+pub fn damage(rng: &mut Rng, matrix: &mut Matrix) {
     match rng.below(8) + 1 {
         1 => pass_limit(rng, matrix),
         2 => match rng.below(3) {

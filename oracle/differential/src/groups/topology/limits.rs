@@ -1,0 +1,221 @@
+//! At the limits and past them. Few, as they are large.
+
+use super::cases::{side, topology};
+use super::{Call, OPERATIONS, Question, Row, Side, Topology, questions, rooms};
+use crate::expected::{ENTRY_LIMIT, SIDE_LIMIT};
+use crate::groups::csr32::Matrix;
+
+pub fn run(run: &mut dyn FnMut(Call)) {
+    matrix_sides(run);
+    matrix_entries(run);
+    sides(run);
+    pair_counts(run);
+    most_pairs(run);
+    word_counts(run);
+}
+
+/// A matrix with one entry in its last row and column, or with none.
+fn one_entry(nrows: usize, ncols: usize) -> Matrix {
+    let mut row_ptr = vec![0; nrows + 1];
+    row_ptr[nrows] = 1;
+    Matrix {
+        nrows,
+        ncols,
+        row_ptr,
+        col_idx: vec![ncols as u32 - 1],
+        values: vec![1.0],
+    }
+}
+
+fn matrix_sides(run: &mut dyn FnMut(Call)) {
+    for side in [SIDE_LIMIT - 1, SIDE_LIMIT, SIDE_LIMIT + 1] {
+        questions::of_matrix(&one_entry(side, 2), run);
+        questions::of_matrix(&one_entry(2, side), run);
+    }
+    let largest = one_entry(SIDE_LIMIT, SIDE_LIMIT);
+    questions::of_matrix(&largest, run);
+    // One pointer too few in the longest lists.
+    let needed = rooms::of_both(&largest);
+    for place in [0, 3, 6] {
+        let mut lengths = needed.clone();
+        lengths[place] -= 1;
+        run(Call::FromCsr32(largest.clone(), rooms::both_lent(&lengths)));
+    }
+    for far in [1 << 32, usize::MAX - 1, usize::MAX] {
+        for (nrows, ncols) in [(far, 1), (1, far), (far, far)] {
+            for row_ptr in [vec![], vec![0], vec![0, 0]] {
+                let matrix = Matrix {
+                    nrows,
+                    ncols,
+                    row_ptr,
+                    col_idx: vec![],
+                    values: vec![],
+                };
+                questions::of_matrix(&matrix, run);
+            }
+        }
+    }
+}
+
+/// So many entries that no list of words is lent: at the limit the lists are
+/// too short (25), past it the matrix is too large (1).
+fn matrix_entries(run: &mut dyn FnMut(Call)) {
+    for (columns, values) in [
+        (ENTRY_LIMIT, ENTRY_LIMIT),
+        (ENTRY_LIMIT + 1, ENTRY_LIMIT + 1),
+        (ENTRY_LIMIT, ENTRY_LIMIT + 1),
+        (ENTRY_LIMIT + 1, 0),
+    ] {
+        let matrix = Matrix {
+            nrows: 1,
+            ncols: 1,
+            row_ptr: vec![0, columns as u32],
+            col_idx: vec![0; columns],
+            values: vec![1.0; values],
+        };
+        run(Call::SideFromCsr32(matrix.clone(), rooms::lent(&[2, 0, 0])));
+        let lengths = [2, 0, 0, 2, 0, 0, 2, 0];
+        run(Call::FromCsr32(matrix, rooms::both_lent(&lengths)));
+    }
+}
+
+/// Sides at and past the limit, with pairs in the last row and column.
+fn sides(run: &mut dyn FnMut(Call)) {
+    for length in [SIDE_LIMIT - 1, SIDE_LIMIT, SIDE_LIMIT + 1] {
+        let pairs = [(0, 0), (0, length - 1), (1, length - 1)];
+        let wide = topology(2, length, &pairs);
+        let tall = Topology {
+            rows: wide.columns.clone(),
+            columns: wide.rows.clone(),
+        };
+        questions::of_side(&wide.rows, &wide.rows, run);
+        questions::of_side(&wide.columns, &wide.columns, run);
+        for topology in [&wide, &tall] {
+            questions::of_topology(topology, run);
+            last_row(topology, run);
+        }
+    }
+    for far in [SIDE_LIMIT + 1, 1 << 32, usize::MAX - 1, usize::MAX] {
+        for (nrows, ncols) in [(far, 1), (1, far), (far, far)] {
+            for row_word_ptr in [vec![], vec![0], vec![0, 0]] {
+                let wrong = Side {
+                    nrows,
+                    ncols,
+                    row_word_ptr,
+                    ..side(0, 0, &[])
+                };
+                let right = side(1, 1, &[]);
+                questions::of_side(&wrong, &right, run);
+                both_ways(&wrong, &right, run);
+            }
+        }
+    }
+}
+
+/// The last row of either side, and the first past it.
+fn last_row(topology: &Topology, run: &mut dyn FnMut(Call)) {
+    for columns in [false, true] {
+        let side = topology.side(columns);
+        let last = side.ncols as u64 - 1;
+        for number in [side.nrows as u64 - 1, side.nrows as u64] {
+            for question in [
+                Question::Contains(last),
+                Question::Contains(last + 1),
+                Question::Rank(last),
+                Question::Rank(last + 1),
+                Question::Rank(last + 2),
+                Question::Select(1),
+                Question::Word(0),
+            ] {
+                let row = Row { columns, number };
+                run(Call::OfRow(topology.clone(), row, question));
+            }
+        }
+    }
+}
+
+/// A side as the rows and as the columns.
+fn both_ways(one: &Side, other: &Side, run: &mut dyn FnMut(Call)) {
+    let (rows, columns) = (one.clone(), other.clone());
+    questions::of_topology(&Topology { rows, columns }, run);
+    let (rows, columns) = (other.clone(), one.clone());
+    questions::of_topology(&Topology { rows, columns }, run);
+}
+
+/// Pair counts that no list bears out: 9 up to the limit, past it 1.
+fn pair_counts(run: &mut dyn FnMut(Call)) {
+    let right = side(1, 1, &[(0, 0)]);
+    for structural_nnz in [
+        ENTRY_LIMIT - 1,
+        ENTRY_LIMIT,
+        ENTRY_LIMIT + 1,
+        1 << 32 | 1,
+        1 << 63 | 1,
+        usize::MAX,
+    ] {
+        let wrong = Side {
+            structural_nnz,
+            ..right.clone()
+        };
+        questions::of_side(&wrong, &right, run);
+        both_ways(&wrong, &right, run);
+    }
+}
+
+/// As many pairs as there may be, and one more.
+fn most_pairs(run: &mut dyn FnMut(Call)) {
+    let mut full = full_rows(16, SIDE_LIMIT);
+    let columns = full_rows(SIDE_LIMIT, 16);
+    let rows = full.clone();
+    run(Call::SideStats(full.clone()));
+    run(Call::Stats(Topology { rows, columns }));
+    full.nrows += 1;
+    full.masks.push(1);
+    full.word_indices.push(0);
+    full.row_word_ptr.push(full.masks.len() as u32);
+    full.structural_nnz += 1;
+    run(Call::SideValidate(full.clone()));
+    full.structural_nnz -= 1;
+    run(Call::SideValidate(full));
+}
+
+/// Every column in every row.
+fn full_rows(nrows: usize, ncols: usize) -> Side {
+    let words = ncols.div_ceil(64);
+    let last = u64::MAX >> (64 * words - ncols);
+    let mut row = vec![u64::MAX; words];
+    row[words - 1] = last;
+    Side {
+        nrows,
+        ncols,
+        row_word_ptr: (0..=nrows).map(|row| (row * words) as u32).collect(),
+        word_indices: (0..nrows).flat_map(|_| 0..words as u32).collect(),
+        masks: row.repeat(nrows),
+        structural_nnz: nrows * ncols,
+    }
+}
+
+/// As many words as there may be, and one more in either list or both.
+fn word_counts(run: &mut dyn FnMut(Call)) {
+    let words = SIDE_LIMIT / 64;
+    let nrows = ENTRY_LIMIT / words;
+    let mut most = Side {
+        nrows,
+        ncols: SIDE_LIMIT,
+        row_word_ptr: (0..=nrows).map(|row| (row * words) as u32).collect(),
+        word_indices: (0..nrows).flat_map(|_| 0..words as u32).collect(),
+        masks: vec![1; ENTRY_LIMIT],
+        structural_nnz: ENTRY_LIMIT,
+    };
+    run(Call::SideValidate(most.clone()));
+    let right = side(nrows, SIDE_LIMIT, &[]);
+    // The answer's lists would be as long; they are not lent, so 25.
+    let nothing = rooms::lent(&[nrows + 1, 0, 0]);
+    run(Call::Combine(OPERATIONS[0], right, most.clone(), nothing));
+    most.masks.push(1);
+    run(Call::SideValidate(most.clone()));
+    most.word_indices.push(0);
+    run(Call::SideValidate(most.clone()));
+    most.masks.pop();
+    run(Call::SideValidate(most));
+}
