@@ -62,6 +62,7 @@ fn of_topologies() -> Vec<(Call, Answer)> {
     let chain = topology(3, 3, &[(0, 1), (1, 2)]);
     let mut empty_word = side(1, 1, &[(0, 0)]);
     empty_word.masks = vec![0];
+    empty_word.structural_nnz = 0;
     let not_transposed = Topology {
         rows: chain.rows.clone(),
         columns: chain.rows.clone(),

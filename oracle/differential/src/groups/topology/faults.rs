@@ -77,15 +77,35 @@ fn pointer_lists(right: &Side, add: &mut Add) {
         ] {
             if new != old {
                 add(&|side| side.row_word_ptr[place] = new);
+                add(&|side| {
+                    side.row_word_ptr[place] = new;
+                    recount(side);
+                });
             }
         }
     }
     // Two neighbours that fall, and both past the end.
     for place in 1..right.row_word_ptr.len().saturating_sub(2) {
         add(&|side| side.row_word_ptr.swap(place, place + 1));
+        add(&|side| {
+            side.row_word_ptr.swap(place, place + 1);
+            recount(side);
+        });
         add(&|side| side.row_word_ptr[place..place + 2].fill(words + 1));
         add(&|side| side.row_word_ptr[place..place + 2].copy_from_slice(&[words + 2, words + 1]));
     }
+}
+
+/// Gives a side the pairs that are counted row by row if rows without an end
+/// have none: then no other fault hides that of the pointers.
+fn recount(side: &mut Side) {
+    let rows = side.row_word_ptr.windows(2);
+    let masks = rows.filter_map(|ends| side.masks.get(ends[0] as usize..ends[1] as usize));
+    side.structural_nnz = masks.map(ones).sum();
+}
+
+fn ones(masks: &[u64]) -> usize {
+    masks.iter().map(|mask| mask.count_ones() as usize).sum()
 }
 
 /// Word numbers and masks that differ in length, and both longer or shorter.
@@ -113,11 +133,11 @@ fn words(right: &Side, add: &mut Add) {
     let past = right.ncols.div_ceil(64) as u32;
     for place in 0..right.masks.len() {
         let count = right.masks[place].count_ones() as usize;
-        add(&|side| side.masks[place] = 0);
         add(&|side| {
             side.masks[place] = 0;
             side.structural_nnz -= count;
         });
+        add(&|side| side.masks[place] = 0);
         // The last three are small again where 64 times the number is kept in
         // 32 bits, or the number in fewer.
         for word in [past, past + 1, u32::MAX, 1 << 26, 1 << 16, 1 << 31] {
@@ -209,23 +229,7 @@ pub fn disagreeing(right: &Topology) -> Vec<Topology> {
         });
     }
     for place in 0..pairs.len() {
-        let mut fewer = pairs.clone();
-        let (row, column) = fewer.remove(place);
-        all.push(with_columns(right, &fewer));
-        for moved in [
-            ((row + 1) % nrows, column),
-            (row, (column + 1) % ncols),
-            ((row + 1) % nrows, (column + 1) % ncols),
-            (row, (column + 64) % ncols),
-            ((row + 64) % nrows, column),
-            (nrows - 1 - row, ncols - 1 - column),
-        ] {
-            let more = [pairs.as_slice(), &[moved]].concat();
-            all.push(with_columns(right, &more));
-            let mut other = pairs.clone();
-            other[place] = moved;
-            all.push(with_columns(right, &other));
-        }
+        all.extend(with_pair_moved(right, &pairs, place));
     }
     // The rows once more in place of the columns, where that is a shape.
     if nrows == ncols {
@@ -234,6 +238,30 @@ pub fn disagreeing(right: &Topology) -> Vec<Topology> {
             rows: right.rows.clone(),
             columns: same,
         });
+    }
+    all
+}
+
+/// One of the pairs missing, once more elsewhere, or elsewhere alone, in one of
+/// the sides.
+pub fn with_pair_moved(right: &Topology, pairs: &[Pair], place: usize) -> Vec<Topology> {
+    let (nrows, ncols) = (right.rows.nrows, right.rows.ncols);
+    let mut fewer = pairs.to_vec();
+    let (row, column) = fewer.remove(place);
+    let mut all = vec![with_columns(right, &fewer)];
+    for moved in [
+        ((row + 1) % nrows, column),
+        (row, (column + 1) % ncols),
+        ((row + 1) % nrows, (column + 1) % ncols),
+        (row, (column + 64) % ncols),
+        ((row + 64) % nrows, column),
+        (nrows - 1 - row, ncols - 1 - column),
+    ] {
+        let more = [pairs, &[moved]].concat();
+        all.push(with_columns(right, &more));
+        let mut other = pairs.to_vec();
+        other[place] = moved;
+        all.push(with_columns(right, &other));
     }
     all
 }

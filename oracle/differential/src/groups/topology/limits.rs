@@ -1,13 +1,15 @@
 //! At the limits and past them. Few, as they are large.
 
-use super::cases::{side, topology};
+use super::cases::{matrix, side, topology};
 use super::{Call, OPERATIONS, Question, Row, Side, Topology, questions, rooms};
 use crate::expected::{ENTRY_LIMIT, SIDE_LIMIT};
 use crate::groups::csr32::Matrix;
+use crate::rng::Rng;
 
 pub fn run(run: &mut dyn FnMut(Call)) {
     matrix_sides(run);
     matrix_entries(run);
+    longest_rows(run);
     sides(run);
     pair_counts(run);
     most_pairs(run);
@@ -60,11 +62,13 @@ fn matrix_sides(run: &mut dyn FnMut(Call)) {
 /// So many entries that no list of words is lent: at the limit the lists are
 /// too short (25), past it the matrix is too large (1).
 fn matrix_entries(run: &mut dyn FnMut(Call)) {
-    for (columns, values) in [
-        (ENTRY_LIMIT, ENTRY_LIMIT),
-        (ENTRY_LIMIT + 1, ENTRY_LIMIT + 1),
-        (ENTRY_LIMIT, ENTRY_LIMIT + 1),
-        (ENTRY_LIMIT + 1, 0),
+    let (most, over) = (ENTRY_LIMIT, ENTRY_LIMIT + 1);
+    for (columns, values, both) in [
+        (most, most, false),
+        (most, most, true),
+        (over, over, false),
+        (over, 0, false),
+        (most, over, true),
     ] {
         let matrix = Matrix {
             nrows: 1,
@@ -73,27 +77,41 @@ fn matrix_entries(run: &mut dyn FnMut(Call)) {
             col_idx: vec![0; columns],
             values: vec![1.0; values],
         };
-        run(Call::SideFromCsr32(matrix.clone(), rooms::lent(&[2, 0, 0])));
-        let lengths = [2, 0, 0, 2, 0, 0, 2, 0];
-        run(Call::FromCsr32(matrix, rooms::both_lent(&lengths)));
+        if both {
+            let lengths = [2, 0, 0, 2, 0, 0, 2, 0];
+            run(Call::FromCsr32(matrix, rooms::both_lent(&lengths)));
+        } else {
+            run(Call::SideFromCsr32(matrix, rooms::lent(&[2, 0, 0])));
+        }
     }
+}
+
+/// An entry in every word that a row can have, in falling and in no order, and
+/// one entry 70,000 times.
+fn longest_rows(run: &mut dyn FnMut(Call)) {
+    let falling: Vec<u32> = (0..SIDE_LIMIT as u32).step_by(64).rev().collect();
+    let mut shuffled = [falling.as_slice(), &falling[..1_000]].concat();
+    Rng::new(8).shuffle(&mut shuffled);
+    let again = [vec![0, 65], vec![64; 70_000], vec![65, 0]].concat();
+    questions::of_matrix(&matrix(SIDE_LIMIT, &[falling, vec![5], shuffled]), run);
+    questions::of_matrix(&matrix(66, &[again, vec![1]]), run);
 }
 
 /// Sides at and past the limit, with pairs in the last row and column.
 fn sides(run: &mut dyn FnMut(Call)) {
-    for length in [SIDE_LIMIT - 1, SIDE_LIMIT, SIDE_LIMIT + 1] {
+    for length in [SIDE_LIMIT, SIDE_LIMIT + 1] {
         let pairs = [(0, 0), (0, length - 1), (1, length - 1)];
         let wide = topology(2, length, &pairs);
-        let tall = Topology {
-            rows: wide.columns.clone(),
-            columns: wide.rows.clone(),
-        };
-        questions::of_side(&wide.rows, &wide.rows, run);
-        questions::of_side(&wide.columns, &wide.columns, run);
-        for topology in [&wide, &tall] {
-            questions::of_topology(topology, run);
-            last_row(topology, run);
+        for side in [&wide.rows, &wide.columns] {
+            run(Call::SideValidate(side.clone()));
+            questions::combine(OPERATIONS[3], side, side, run);
         }
+        last_rows(&wide, run);
+        run(Call::Validate(wide.clone()));
+        run(Call::Validate(Topology {
+            rows: wide.columns,
+            columns: wide.rows,
+        }));
     }
     for far in [SIDE_LIMIT + 1, 1 << 32, usize::MAX - 1, usize::MAX] {
         for (nrows, ncols) in [(far, 1), (1, far), (far, far)] {
@@ -113,24 +131,20 @@ fn sides(run: &mut dyn FnMut(Call)) {
 }
 
 /// The last row of either side, and the first past it.
-fn last_row(topology: &Topology, run: &mut dyn FnMut(Call)) {
-    for columns in [false, true] {
-        let side = topology.side(columns);
-        let last = side.ncols as u64 - 1;
-        for number in [side.nrows as u64 - 1, side.nrows as u64] {
-            for question in [
-                Question::Contains(last),
-                Question::Contains(last + 1),
-                Question::Rank(last),
-                Question::Rank(last + 1),
-                Question::Rank(last + 2),
-                Question::Select(1),
-                Question::Word(0),
-            ] {
-                let row = Row { columns, number };
-                run(Call::OfRow(topology.clone(), row, question));
-            }
-        }
+fn last_rows(wide: &Topology, run: &mut dyn FnMut(Call)) {
+    let length = wide.rows.ncols as u64;
+    for (columns, number, question) in [
+        (false, 1, Question::Contains(length - 1)),
+        (false, 1, Question::Contains(length)),
+        (false, 1, Question::Rank(length)),
+        (false, 1, Question::Rank(length + 1)),
+        (false, 0, Question::Select(1)),
+        (true, length - 1, Question::Select(1)),
+        (true, length - 1, Question::Word(0)),
+        (true, length, Question::Words),
+    ] {
+        let row = Row { columns, number };
+        run(Call::OfRow(wide.clone(), row, question));
     }
 }
 

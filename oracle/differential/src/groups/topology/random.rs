@@ -24,9 +24,9 @@ pub fn random(rng: &mut Rng) -> Call {
 fn length(rng: &mut Rng) -> usize {
     match rng.below(1_000) {
         0 => rng.below(2_600),
-        1..100 => rng.pick(&BORDERS),
-        100..150 => 0,
-        150..200 => rng.below(200),
+        1..60 => rng.pick(&BORDERS),
+        60..100 => 0,
+        100..130 => rng.below(200),
         _ => 1 + rng.below(7),
     }
 }
@@ -35,7 +35,7 @@ fn length(rng: &mut Rng) -> usize {
 fn right_matrix(rng: &mut Rng) -> Matrix {
     let order = rng.pick(&ORDERS);
     let nrows = length(rng);
-    let ncols = match rng.below(4) {
+    let ncols = match rng.below(6) {
         0 => rng.pick(&[63, 64, 65, 66, 127, 128, 129, 130]),
         _ => length(rng),
     };

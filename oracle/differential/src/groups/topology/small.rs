@@ -10,6 +10,7 @@ pub fn run(run: &mut dyn FnMut(Call)) {
     all_topologies(run);
     all_transposes(run);
     all_sides(run);
+    all_pointers(run);
     all_operations(run);
 }
 
@@ -182,6 +183,28 @@ fn all_sides(run: &mut dyn FnMut(Call)) {
                             run(Call::SideValidate(side));
                         }
                     }
+                }
+            }
+        }
+    }
+}
+
+/// Every choice of 4 pointers from 0 to 3 for 3 rows, and of up to 2 words with
+/// every pair count that some reading of the pointers could give.
+fn all_pointers(run: &mut dyn FnMut(Call)) {
+    for pointers in 0..1 << 8 {
+        let row_word_ptr: Vec<u32> = (0..4).map(|at| pointers >> (2 * at) & 3).collect();
+        for masks in [&[][..], &[1], &[1, 1], &[1, 3]] {
+            for word_indices in [&[][..], &[0], &[0, 0], &[0, 1], &[1, 0]] {
+                for structural_nnz in 0..=8 {
+                    run(Call::SideValidate(Side {
+                        nrows: 3,
+                        ncols: 66,
+                        row_word_ptr: row_word_ptr.clone(),
+                        word_indices: word_indices.to_vec(),
+                        masks: masks.to_vec(),
+                        structural_nnz,
+                    }));
                 }
             }
         }

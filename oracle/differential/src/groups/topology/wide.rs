@@ -2,7 +2,7 @@
 
 use super::cases::{matrix, pairs, side, topology};
 use super::matrices::{ORDERS, ordered, row};
-use super::{Call, OPERATIONS, questions};
+use super::{Call, OPERATIONS, faults, questions};
 use crate::rng::Rng;
 
 /// So many words in a row at most.
@@ -13,6 +13,7 @@ pub fn run(run: &mut dyn FnMut(Call)) {
     word_orders(&mut rng, run);
     long_rows(&mut rng, run);
     many_entries(&mut rng, run);
+    not_transposed(&mut rng, run);
     operations(&mut rng, run);
 }
 
@@ -71,6 +72,31 @@ fn many_entries(rng: &mut Rng, run: &mut dyn FnMut(Call)) {
     for order in ORDERS {
         let columns = row(rng, order, 200_000, 6_000);
         questions::of_matrix(&matrix(200_000, &[vec![7], columns]), run);
+    }
+}
+
+/// One pair of many at another place in one of the sides: an early one, one in
+/// the middle, the last.
+fn not_transposed(rng: &mut Rng, run: &mut dyn FnMut(Call)) {
+    for (nrows, ncols, densest) in [
+        (3, 64 * WORDS, 100),
+        (64 * WORDS, 3, 2),
+        (129, 129, 8),
+        (300, 300, 12),
+        (1, 5_000, 90),
+        (5_000, 1, 1),
+    ] {
+        let matrix = ordered(rng, ORDERS[2], nrows, ncols, densest);
+        let right = topology(nrows, ncols, &pairs(&matrix));
+        let pairs = faults::pairs(&right.rows);
+        for place in [0, pairs.len() / 2, pairs.len().saturating_sub(1)] {
+            if place < pairs.len() {
+                for topology in faults::with_pair_moved(&right, &pairs, place) {
+                    run(Call::Validate(topology.clone()));
+                    questions::one_of_topology(&topology, 1 + rng.below(13), run);
+                }
+            }
+        }
     }
 }
 
