@@ -1,8 +1,19 @@
 //! Times of the port and of the original Rust, on the same inputs in one run.
 //! Each group of calls has a file of its own and adds its rows to one table.
+//!
+//! ```text
+//! benchmark               all rows but the slowest
+//! benchmark long          all rows
+//! benchmark GROUP [long]  those of layout or of topology
+//! ```
 
 mod layout;
 mod measure;
+mod memory;
+mod topology;
+
+use std::env;
+use std::process::exit;
 
 use measure::Table;
 
@@ -11,7 +22,29 @@ use measure::Table;
 const _: () = assert!(!cfg!(target_feature = "sse3"), "built with target-cpu");
 
 fn main() {
+    let arguments: Vec<String> = env::args().skip(1).collect();
+    let arguments: Vec<&str> = arguments.iter().map(String::as_str).collect();
+    let (group, long) = match arguments.as_slice() {
+        [] => (None, false),
+        ["long"] => (None, true),
+        [group] => (Some(*group), false),
+        [group, "long"] => (Some(*group), true),
+        _ => usage(),
+    };
+    if group.is_some_and(|group| !["layout", "topology"].contains(&group)) {
+        usage();
+    }
     let mut table = Table::new();
-    layout::rows(&mut table);
+    if group != Some("topology") {
+        layout::rows(&mut table);
+    }
+    if group != Some("layout") {
+        topology::rows(&mut table, long);
+    }
     table.finish();
+}
+
+fn usage() -> ! {
+    println!("usage: benchmark [layout | topology] [long]");
+    exit(1);
 }

@@ -71,6 +71,15 @@ impl Table {
         println!(
             "call; the Rust checks a layout only once, in `new`. (-: the Rust has no such call.)"
         );
+        println!(
+            "`validate` of both sides: the port also checks that the columns are the transpose of"
+        );
+        println!(
+            "the rows. Memory in megabytes: the port works in the lent lists alone; the Rust's"
+        );
+        println!(
+            "figures are the most that it holds while it builds, and what is left of that then."
+        );
         println!();
         println!(
             "{:<28} {:<46} {:>12} {:>12} {:>12} {:>7}",
@@ -99,6 +108,16 @@ impl Table {
             (format!("{rust:.3}"), format!("{:.2}", port / rust))
         };
         println!("{call:<28} {input:<46} {port:>12.3} {rust:>12} {ratio:>12} {samples:>7}");
+    }
+
+    /// Prints under a row what the lent lists take, and the Rust at most and in
+    /// the end.
+    pub fn memory(&mut self, lent: usize, (most, left): (usize, usize)) {
+        let [lent, most, left] = [lent, most, left].map(|bytes| bytes as f64 / 1e6);
+        println!(
+            "{:<28} lent lists {lent:.1}; the Rust at most {most:.1}, then {left:.1}",
+            "  memory"
+        );
     }
 
     pub fn finish(&self) {
