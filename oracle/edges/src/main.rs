@@ -8,6 +8,7 @@
 mod growth;
 mod limits;
 mod masks;
+mod topologies;
 mod values;
 
 use std::env;
@@ -28,6 +29,7 @@ fn main() {
     values::run();
     growth::run();
     masks::run();
+    topologies::run();
     growth::empty_matrix();
 }
 
