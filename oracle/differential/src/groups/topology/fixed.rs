@@ -146,6 +146,9 @@ fn faulty_sides(run: &mut dyn FnMut(Call)) {
         }
         for side in wrong {
             questions::of_side(&side, &right.rows, run);
+            let nothing = rooms::lent(&[0; 3]);
+            let operation = OPERATIONS[side.masks.len() % 4];
+            run(Call::Combine(operation, side, right.rows.clone(), nothing));
         }
     }
 }

@@ -13,6 +13,7 @@ pub fn run(run: &mut dyn FnMut(Call)) {
     sides(run);
     pair_counts(run);
     most_pairs(run);
+    past_in_answer(run);
     word_counts(run);
 }
 
@@ -107,6 +108,11 @@ fn sides(run: &mut dyn FnMut(Call)) {
             questions::combine(OPERATIONS[3], side, side, run);
         }
         last_rows(&wide, run);
+        let other = topology(2, length, &[(0, 0), (0, length - 2), (1, length - 1)]);
+        run(Call::Validate(Topology {
+            rows: wide.rows.clone(),
+            columns: other.columns,
+        }));
         run(Call::Validate(wide.clone()));
         run(Call::Validate(Topology {
             rows: wide.columns,
@@ -191,6 +197,20 @@ fn most_pairs(run: &mut dyn FnMut(Call)) {
     run(Call::SideValidate(full.clone()));
     full.structural_nnz -= 1;
     run(Call::SideValidate(full));
+}
+
+/// Two sides of as many pairs as there may be, in rows of their own: the limit
+/// is one of what is handed in, and the answer has twice as many.
+fn past_in_answer(run: &mut dyn FnMut(Call)) {
+    let mut a = full_rows(16, SIDE_LIMIT);
+    let mut b = a.clone();
+    a.nrows = 32;
+    a.row_word_ptr.resize(33, a.masks.len() as u32);
+    b.nrows = 32;
+    b.row_word_ptr.splice(0..0, [0; 16]);
+    for operation in OPERATIONS {
+        questions::combine(operation, &a, &b, run);
+    }
 }
 
 /// Every column in every row.
