@@ -54,9 +54,9 @@ fn not_validated() {
     );
     line(
         "12b",
-        "AbtmTopology::row 1, row pointers 0,1,0,1 over one word (hand-made)",
+        "AbtmTopology::row 0, row pointers 1,0 and no word (hand-made)",
         "9",
-        || side(3, 1, &[0, 1, 0, 1], &[0], &[1]).row(1).is_ok(),
+        || side(1, 1, &[1, 0], &[], &[]).row(0).is_ok(),
     );
     line(
         "12c",
@@ -101,10 +101,10 @@ fn operations() {
     );
     line(
         "13c",
-        "intersection, row pointers 0,2 over one word (hand-made), with itself",
+        "intersection of a side with row pointers 0,1 and no word (hand-made) and itself",
         "9",
         || {
-            let past = side(1, 1, &[0, 2], &[0], &[1]);
+            let past = side(1, 1, &[0, 1], &[], &[]);
             past.intersection(&past).map(|both| both.masks)
         },
     );

@@ -30,9 +30,9 @@ fn number(answer: Result<(), HybitError>) -> u64 {
 
 /// Ends the program unless the sides have every fault that a side can have.
 pub fn demand_all(sides: &[Side]) {
-    for fault in 0..OF_SIDE {
-        let met = sides.iter().any(|side| of_side(side) == fault as u64);
-        assert!(met, "no side with: {}", TOPOLOGY_FAULTS[fault]);
+    for (fault, text) in (0..).zip(&TOPOLOGY_FAULTS[..OF_SIDE]) {
+        let met = sides.iter().any(|side| of_side(side) == fault);
+        assert!(met, "no side with: {text}");
     }
 }
 

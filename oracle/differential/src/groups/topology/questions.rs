@@ -86,7 +86,7 @@ pub fn one_of_topology(topology: &Topology, turn: usize, run: &mut dyn FnMut(Cal
     };
     let columns = turn % 2 == 1;
     let last = topology.side(columns).nrows.wrapping_sub(1) as u64;
-    let number = if turn % 3 == 0 { last } else { 0 };
+    let number = if turn.is_multiple_of(3) { last } else { 0 };
     run(Call::OfRow(
         topology.clone(),
         Row { columns, number },

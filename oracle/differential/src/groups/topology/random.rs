@@ -268,10 +268,10 @@ fn of_row(rng: &mut Rng) -> Call {
     let topology = random_topology(rng);
     let columns = rng.once_in(2);
     let side = topology.side(columns);
-    let (rows, width) = (side.row_word_ptr.len(), side.ncols.min(SIDE_LIMIT));
+    let (pointers, width) = (side.row_word_ptr.len(), side.ncols.min(SIDE_LIMIT));
     let number = match rng.below(20) {
         0 => rng.pick(&FAR),
-        _ => rng.below(rows + 1) as u64,
+        _ => rng.below(pointers.max(1)) as u64,
     };
     let col = match rng.below(20) {
         0 => rng.pick(&FAR),

@@ -235,7 +235,7 @@ fn one_call(side: &Side, other: &Side, turn: usize, run: &mut dyn FnMut(Call)) {
 
 /// Every two sides of 2 rows and 2 words, each word missing, 1, 2 or 3.
 fn all_operations(run: &mut dyn FnMut(Call)) {
-    let all: Vec<Side> = (0..256).map(|masks| two_by_two(masks)).collect();
+    let all: Vec<Side> = (0..256).map(two_by_two).collect();
     for a in &all {
         for b in &all {
             for operation in OPERATIONS {
