@@ -45,7 +45,7 @@ fn count(bytes: isize) {
 }
 
 /// The most that was held at a time beyond what was held before, and what the
-/// result holds.
+/// result holds. A list that grows counts by its growth, moved or not.
 pub fn taken<O>(work: impl FnOnce() -> O) -> (usize, usize) {
     HELD.store(0, Relaxed);
     MOST.store(0, Relaxed);

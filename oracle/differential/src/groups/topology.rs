@@ -169,15 +169,22 @@ impl GroupCall for Call {
     /// Numbers and lists in the order of the function's own parameters.
     fn parts(&mut self) -> Parts<'_> {
         match self {
-            Call::SideValidate(side) | Call::SideStats(side) => side.add_to(Parts::new()),
-            Call::SideFromCsr32(matrix, out) => out.add_to(matrix.parts()),
-            Call::Combine(_, a, b, out) => out.add_to(b.add_to(a.add_to(Parts::new()))),
+            Call::SideValidate(side) | Call::SideStats(side) => {
+                side.add_to(Parts::new(), names!(""))
+            }
+            Call::SideFromCsr32(matrix, out) => out.add_to(matrix.parts(), names!("out.")),
+            Call::Combine(_, a, b, out) => {
+                let parts = a.add_to(Parts::new(), names!("a."));
+                out.add_to(b.add_to(parts, names!("b.")), names!("out."))
+            }
             Call::Validate(topology) | Call::Stats(topology) => topology.parts(),
-            Call::FromCsr32(matrix, out) => out
-                .columns
-                .add_to(out.rows.add_to(matrix.parts()))
-                .written("starts", U32(&mut out.starts))
-                .written("order", U32(&mut out.order)),
+            Call::FromCsr32(matrix, out) => {
+                let parts = out.rows.add_to(matrix.parts(), names!("out.rows."));
+                out.columns
+                    .add_to(parts, names!("out.columns."))
+                    .written("starts", U32(&mut out.starts))
+                    .written("order", U32(&mut out.order))
+            }
             Call::OfRow(topology, row, question) => {
                 let parts = topology
                     .parts()
@@ -221,21 +228,47 @@ impl GroupCall for Call {
     }
 }
 
+/// What the parts of a side are called.
+type Names = [&'static str; 6];
+
+macro_rules! names {
+    ($side:literal) => {
+        [
+            concat!($side, "nrows"),
+            concat!($side, "ncols"),
+            concat!($side, "row_word_ptr"),
+            concat!($side, "word_indices"),
+            concat!($side, "masks"),
+            concat!($side, "structural_nnz"),
+        ]
+    };
+}
+use names;
+
 impl Side {
-    fn add_to<'call>(&'call mut self, parts: Parts<'call>) -> Parts<'call> {
+    fn add_to<'call>(&'call mut self, parts: Parts<'call>, names: Names) -> Parts<'call> {
+        let [
+            nrows,
+            ncols,
+            row_word_ptr,
+            word_indices,
+            masks,
+            structural_nnz,
+        ] = names;
         parts
-            .number("nrows", self.nrows as u64)
-            .number("ncols", self.ncols as u64)
-            .read("row_word_ptr", U32(&mut self.row_word_ptr))
-            .read("word_indices", U32(&mut self.word_indices))
-            .read("masks", U64(&mut self.masks))
-            .number("structural_nnz", self.structural_nnz as u64)
+            .number(nrows, self.nrows as u64)
+            .number(ncols, self.ncols as u64)
+            .read(row_word_ptr, U32(&mut self.row_word_ptr))
+            .read(word_indices, U32(&mut self.word_indices))
+            .read(masks, U64(&mut self.masks))
+            .number(structural_nnz, self.structural_nnz as u64)
     }
 }
 
 impl Topology {
     fn parts(&mut self) -> Parts<'_> {
-        self.columns.add_to(self.rows.add_to(Parts::new()))
+        let parts = self.rows.add_to(Parts::new(), names!("rows."));
+        self.columns.add_to(parts, names!("columns."))
     }
 
     fn side(&self, columns: bool) -> &Side {
@@ -244,10 +277,11 @@ impl Topology {
 }
 
 impl Lent {
-    fn add_to<'call>(&'call mut self, parts: Parts<'call>) -> Parts<'call> {
+    fn add_to<'call>(&'call mut self, parts: Parts<'call>, names: Names) -> Parts<'call> {
+        let [_, _, row_word_ptr, word_indices, masks, _] = names;
         parts
-            .written("out row_word_ptr", U32(&mut self.row_word_ptr))
-            .written("out word_indices", U32(&mut self.word_indices))
-            .written("out masks", U64(&mut self.masks))
+            .written(row_word_ptr, U32(&mut self.row_word_ptr))
+            .written(word_indices, U32(&mut self.word_indices))
+            .written(masks, U64(&mut self.masks))
     }
 }
