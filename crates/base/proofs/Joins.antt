@@ -8,6 +8,7 @@ use native.Mathlib.Numerals.{add-one}
 use lib.ListN.{length, take, drop, length-append}
 use lib.Seq.{slice, take-at, drop-at}
 use Rattle.base.specs.Lists.{joinBelow}
+use Rattle.base.specs.Sets.{sumBelow}
 
 module _ {A : Type 0} where
   pub join-none : (f : ℕ → List A) → joinBelow 0 f ≡ []
@@ -62,3 +63,9 @@ unfolding joinBelow
 join-length zero f g h = refl
 join-length (suc n) f g h =
     length-append (joinBelow n f) (f n) ∙ ap₂ _+_ (join-length n f g (λ r l. h r (omega arith))) (h n (omega arith)) ∙ sym (length-append (joinBelow n g) (g n))
+
+-- how long they are together
+pub join-count : {A : Type 0} (n : ℕ) (f : ℕ → List A) → length (joinBelow n f) ≡ sumBelow n (λ r. length (f r))
+unfolding joinBelow sumBelow
+join-count zero f = refl
+join-count (suc n) f = length-append (joinBelow n f) (f n) ∙ ap (λ (k : ℕ). k + length (f n)) (join-count n f)

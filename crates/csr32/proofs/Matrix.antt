@@ -1,19 +1,23 @@
 -- What an accepted matrix gives, and the laws of `stored`. Assumes nothing.
 use mathlib.Core.Path.{_≡_, sym, ap, _∙_, subst}
-use mathlib.Core.List.{List, []}
+use mathlib.Core.Bool.{Bool, true, false, _||_}
+use mathlib.Core.List.{List, [], _∷_}
 use mathlib.Core.Logic.{_⊎_, inl, inr}
-use Prim.Native.Nat.{ℕ, _+_, _≤_, _<_}
+use Prim.Native.Nat.{ℕ, zero, suc, _+_, _≤_, _<_}
 use native.Mathlib.Nat.{le-refl}
 use native.Mathlib.Omega.{arith}
-use borrow.Author.Tests.{leb-true, eqb-true, ltb-true}
-use lib.Dec.{T, leb}
+use borrow.Author.Tests.{leb-true, eqb-true, ltb-true, eq-eqb, ne-eqb}
+use native.Mathlib.Decide.{ℕ-discrete}
+use lib.Dec.{T, leb, eqb}
 use lib.Ieee.{Float, nan}
 use lib.ListN.{length, getD, List·getD-eq-default}
-use lib.Seq.{slice, drop-nil}
+use lib.Seq.{slice, drop-nil, length-slice}
 use Rattle.base.specs.Lists.{below, isIn}
+use Rattle.base.specs.Sets.{one-if, sumBelow, countBelow}
 use Rattle.base.specs.declared.Checked.{Checked}
 use Rattle.base.proofs.Bools.{lt-or-le}
 use Rattle.base.proofs.Checks.{passed, both-passed}
+use Rattle.base.proofs.Sets.{sum-zero, sum-suc, sum-none, sum-add, sum-le, sum-cong}
 use Rattle.base.proofs.Lists.{every-at, pairwise-at, in-slice-at, in-slice-where, rise-to}
 use Rattle.csr32.specs.Matrix.{finite, matrixCheck, rowOf, stored, IsMatrix, Accepts}
 
@@ -47,6 +51,35 @@ accepted nrows ncols ptr cols values e =
       entries = record { as-many = sym same; finite-at = λ k h. every-at finite nan values k (passed _ _ (e10 .1)) h };
     }
 
+-- a list has no more different members than elements
+pub in-count : (l : List ℕ) (n : ℕ) → countBelow n (λ c. isIn c l) ≤ length l
+unfolding isIn
+in-count [] n = omega (arith, sum-none n)
+in-count (x ∷ xs) n =
+    omega (
+      arith,
+      in-count xs n,
+      once x n,
+      sum-add n (λ c. one-if (eqb x c)) (λ c. one-if (isIn c xs)),
+      sum-le n (λ c. one-if (eqb x c || isIn c xs)) (λ c. one-if (eqb x c) + one-if (isIn c xs)) (λ c h. either (eqb x c) (isIn c xs)),
+    )
+  where
+    either : (a b : Bool) → one-if (a || b) ≤ one-if a + one-if b
+    either true b = omega arith
+    either false b = omega arith
+
+    once : (x n : ℕ) → countBelow n (λ c. eqb x c) ≤ 1
+    once x zero = omega (arith, sum-zero (λ c. one-if (eqb x c)))
+    once x (suc n) = here (ℕ-discrete x n) (once x n)
+      where
+        step : sumBelow (suc n) (λ c. one-if (eqb x c)) ≡ sumBelow n (λ c. one-if (eqb x c)) + one-if (eqb x n)
+        step = let e : suc n ≡ n + 1 = omega arith in ap (λ (k : ℕ). sumBelow k (λ c. one-if (eqb x c))) e ∙ sum-suc n (λ c. one-if (eqb x c))
+
+        here : Dec (x ≡ n) → sumBelow n (λ c. one-if (eqb x c)) ≤ 1 → sumBelow (suc n) (λ c. one-if (eqb x c)) ≤ 1
+        here (yes d) ih =
+            omega (arith, step, ap one-if (eq-eqb x n d), sum-cong n (λ c. one-if (eqb x c)) (λ c. 0) (λ c h. ap one-if (ne-eqb x c (λ e. omega arith))) ∙ sum-none n)
+        here (no d) ih = omega (arith, step, ap one-if (ne-eqb x n d))
+
 module _ (nrows ncols : ℕ) (ptr cols : List ℕ) (m : IsMatrix nrows ncols ptr cols) where
   -- no pointer is past the entries
   pub ptr-le : (r : ℕ) → r ≤ nrows → getD ptr r 0 ≤ length cols
@@ -79,3 +112,17 @@ module _ (nrows ncols : ℕ) (ptr cols : List ℕ) (m : IsMatrix nrows ncols ptr
       let s : (k : ℕ) × (getD ptr r 0 ≤ k) × (k < getD ptr (r + 1) 0) × (getD cols k 0 ≡ c) = stored-entry r c t in
       let last : getD ptr (r + 1) 0 ≤ length cols = ptr-le (r + 1) (omega (arith, stored-row r c t)) in
       omega (arith, m .inside (s .0) (omega arith))
+
+  -- a matrix has no more pairs than entries: one that repeats is one pair
+  pub pairs-le : sumBelow nrows (λ r. countBelow ncols (stored ptr cols r)) ≤ length cols
+  unfolding stored
+  pairs-le = omega (arith, go nrows (le-refl nrows), ptr-le nrows (le-refl nrows))
+    where
+      go : (n : ℕ) → n ≤ nrows → sumBelow n (λ r. countBelow ncols (stored ptr cols r)) ≤ getD ptr n 0
+      go zero h = omega (arith, sum-zero (λ r. countBelow ncols (stored ptr cols r)))
+      go (suc n) h =
+          let e : n + 1 ≡ suc n = omega arith in
+          let one : countBelow ncols (stored ptr cols n) ≤ length (rowOf ptr cols n) = in-count (rowOf ptr cols n) ncols in
+          let last : getD ptr (n + 1) 0 ≤ length cols = ptr-le (n + 1) (omega arith) in
+          subst (λ (k : ℕ). sumBelow k (λ r. countBelow ncols (stored ptr cols r)) ≤ getD ptr k 0) e
+          (omega (arith, go n (omega arith), sum-suc n (λ r. countBelow ncols (stored ptr cols r)), length-slice (getD ptr n 0) (getD ptr (n + 1) 0) cols last, m .rises n (omega arith)))

@@ -1,5 +1,6 @@
--- The columns side by way of the transpose, the scratch that is zero again, and what the checks of a building have passed. Assumes nothing.
+-- The columns side by way of the transpose, the scratch that is zero again, what the checks of a building have passed, and that what it leaves is accepted. Assumes nothing.
 use mathlib.Core.Path.{_≡_, sym, ap, _∙_, fun-ext}
+use mathlib.Core.Bool.{Bool}
 use mathlib.Core.List.{List, _++_}
 use Prim.Native.Nat.{ℕ, _+_, _-_, _≤_, _<_}
 use native.Mathlib.Omega.{arith}
@@ -11,9 +12,15 @@ use Rattle.base.specs.Lists.{over, zeroed}
 use Rattle.base.specs.declared.Checked.{Checked}
 use Rattle.base.proofs.Checks.{both-passed, passed}
 use Rattle.csr32.specs.Matrix.{stored, IsMatrix}
-use Rattle.csr32.proofs.Matrix.{accepted}
+use Rattle.csr32.proofs.Matrix.{accepted, stored-row, stored-col, pairs-le}
 use Rattle.transpose.specs.Transpose.{Transposed}
-use Rattle.side.specs.Side.{flip}
+use Rattle.base.specs.Checks.{entryLimit}
+use Rattle.base.specs.Sets.{one-if}
+use Rattle.base.proofs.Sets.{sum-swap}
+use Rattle.side.specs.Side.{flip, sidePtr, sideWords, sideMasks, pairCount}
+use Rattle.side.proofs.Sides.{side-words-le}
+use Rattle.dual_topology.specs.Check.{topologyCheck, IsTopology}
+use Rattle.dual_topology.proofs.Accepted.{sides-are, sides-accepted}
 use Rattle.side.proofs.Accepted.{room-passed}
 use Rattle.dual_topology.specs.Answers.{buildCheck}
 
@@ -42,3 +49,26 @@ build-passed nrows ncols ptr cols values rptr ridx rmasks cptr cidx cmasks start
     let r = room-passed nrows (length cols) (length rptr) (length ridx) (length rmasks) (e2 .0) in
     let c = room-passed ncols (length cols) (length cptr) (length cidx) (length cmasks) (e3 .0) in
     (accepted nrows ncols ptr cols values (e1 .0) .matrix, (r .0, r .1, r .2, c .0, c .1, c .2, ltb-true _ _ (passed _ _ (e4 .0)), leb-true _ _ (passed _ _ (e4 .1))))
+
+-- what a building leaves is an accepted topology of exactly the matrix's pairs
+module _ (nrows ncols : ℕ) (ptr cols : List ℕ) (m : IsMatrix nrows ncols ptr cols) where
+  abbrev s : ℕ → ℕ → Bool
+  s = stored ptr cols
+
+  few-pairs : pairCount nrows ncols s ≤ entryLimit
+  few-pairs = omega (arith, pairs-le nrows ncols ptr cols m, m .few-entries)
+
+  few-words : length (sideWords nrows ncols s) ≤ entryLimit
+  few-words = omega (arith, few-pairs, side-words-le nrows ncols s (λ r c h t. stored-col nrows ncols ptr cols m r c t))
+
+  as-many : pairCount ncols nrows (flip s) ≡ pairCount nrows ncols s
+  as-many = sym (sum-swap nrows ncols (λ r c. one-if (s r c)))
+
+  few-columns : length (sideWords ncols nrows (flip s)) ≤ entryLimit
+  few-columns = omega (arith, few-pairs, as-many, side-words-le ncols nrows (flip s) (λ c r h t. stored-row nrows ncols ptr cols m r c t))
+
+  pub built-topology : IsTopology nrows ncols (sidePtr nrows ncols s) (sideWords nrows ncols s) (sideMasks nrows ncols s) (sidePtr ncols nrows (flip s)) (sideWords ncols nrows (flip s)) (sideMasks ncols nrows (flip s))
+  built-topology = sides-are nrows ncols s (m .few-rows) (m .few-cols) (stored-row nrows ncols ptr cols m) (stored-col nrows ncols ptr cols m) few-words few-columns few-pairs
+
+  pub built-accepted : topologyCheck nrows ncols (sidePtr nrows ncols s) (sideWords nrows ncols s) (sideMasks nrows ncols s) (pairCount nrows ncols s) ncols nrows (sidePtr ncols nrows (flip s)) (sideWords ncols nrows (flip s)) (sideMasks ncols nrows (flip s)) (pairCount nrows ncols s) ≡ Checked.Accepted
+  built-accepted = sides-accepted nrows ncols s (m .few-rows) (m .few-cols) (stored-row nrows ncols ptr cols m) (stored-col nrows ncols ptr cols m) few-words few-columns few-pairs

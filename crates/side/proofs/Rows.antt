@@ -1,5 +1,6 @@
 -- The words of a row in place are the words of its columns, and the other way round. Assumes nothing.
-use mathlib.Core.Path.{_≡_, refl, sym, ap, _∙_}
+use mathlib.Core.Logic.{_⊎_, inl, inr}
+use mathlib.Core.Path.{_≡_, refl, sym, ap, _∙_, subst}
 use mathlib.Core.Bool.{Bool, true, false, not, cond}
 use mathlib.Core.List.{List, map}
 use Prim.Native.Nat.{ℕ, _+_, _-_, _*_, _/_, _≤_, _<_}
@@ -8,10 +9,10 @@ use native.Mathlib.Nat.{zero-add}
 use lib.Dec.{T, eqb}
 use lib.ListN.{length, getD, length-map}
 use lib.Seq.{slice, ext-getD, length-slice}
-use Rattle.base.specs.Sets.{sumBelow, countBelow, membersBelow}
-use Rattle.base.proofs.Bools.{T-not-zero, not-zero-T, T-false}
+use Rattle.base.specs.Sets.{one-if, sumBelow, countBelow, membersBelow}
+use Rattle.base.proofs.Bools.{T-not-zero, not-zero-T, T-false, decide}
 use Rattle.base.proofs.Lists.{getD-slice, getD-map}
-use Rattle.base.proofs.Sets.{sum-cong, sum-members, sum-none, count-cong, count-past, members-at, members-rising, members-find, members-le, members-unique}
+use Rattle.base.proofs.Sets.{sum-cong, sum-members, sum-none, count-cong, count-past, members-at, members-rising, members-find, members-le, members-unique, sum-le, count-pos, count-members}
 use Rattle.word.specs.Bits.{bitAt, wordOf}
 use Rattle.word.proofs.Words.{bit-word, word-some, word-pos, count-words}
 use Rattle.mask.specs.Mask.{wordsFor}
@@ -146,3 +147,33 @@ words-row p ncols idx masks from to h hi small ei em = record { rising = ris; ma
         let b : r .0 < to - from = omega (arith, r .1, many) in
         let s : from + r .0 - from ≡ r .0 = omega arith in
         (from + r .0, omega arith, omega arith, place (from + r .0) (omega arith) (omega arith) ∙ ap (λ (n : ℕ). getD words n 0) s ∙ r .2)
+
+-- a row has no more words than columns
+pub words-le : (p : ℕ → Bool) (ncols : ℕ) → ((c : ℕ) → T (p c) → c < ncols) → length (rowWords ncols p) ≤ countBelow ncols p
+unfolding rowWords
+words-le p ncols small =
+    omega (
+      arith,
+      count-members (wordsFor ncols) q,
+      sum-le (wordsFor ncols) (λ w. one-if (q w)) (λ w. countBelow 64 (λ j. p (64 * w + j))) (λ w h. one w (decide (q w))),
+      count-words (wordsFor ncols) p,
+      count-past ncols (64 * wordsFor ncols) p (omega arith) (λ i a b t. omega (arith, small i t)),
+    )
+  where
+    q : ℕ → Bool
+    q = λ w. not (eqb (wordOf p w) 0)
+
+    none : (b : Bool) → (T b → ⊥) → one-if b ≡ 0
+    none true f = absurd (f tt)
+    none false f = refl
+
+    most : (b : Bool) → one-if b ≤ 1
+    most true = omega arith
+    most false = omega arith
+
+    one : (w : ℕ) → T (q w) ⊎ (T (q w) → ⊥) → one-if (q w) ≤ countBelow 64 (λ j. p (64 * w + j))
+    one w (inl t) =
+        let s : (i : ℕ) × (64 * w ≤ i) × (i < 64 * w + 64) × T (p i) = word-some p 64 (64 * w) (not-zero-T (wordOf p w) t) in
+        let e : 64 * w + (s .0 - 64 * w) ≡ s .0 = omega arith in
+        omega (arith, most (q w), count-pos 64 (λ j. p (64 * w + j)) (s .0 - 64 * w) (omega arith) (subst (λ (x : ℕ). T (p x)) (sym e) (s .3)))
+    one w (inr f) = omega (arith, none (q w) f)

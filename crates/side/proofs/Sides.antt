@@ -14,15 +14,15 @@ use Rattle.base.specs.Checks.{sideLimit, entryLimit}
 use Rattle.base.specs.Sets.{sumBelow, countBelow}
 use Rattle.base.proofs.Bools.{T-true, or-l, or-r, decide, lt-or-le}
 use Rattle.base.proofs.Lists.{take-on, length-listFrom, getD-listFrom, rise-to}
-use Rattle.base.proofs.Joins.{join-none, join-next, join-slice, join-up, join-length}
-use Rattle.base.proofs.Sets.{every-i, sum-zero, sum-suc, sum-append, sum-cong, sum-most, count-le}
+use Rattle.base.proofs.Joins.{join-none, join-next, join-slice, join-up, join-length, join-count}
+use Rattle.base.proofs.Sets.{every-i, sum-zero, sum-suc, sum-append, sum-cong, sum-most, sum-le, count-le}
 use Rattle.word.specs.Bits.{bitAt, wordOf}
 use Rattle.word.proofs.Bits.{zero-bit}
 use Rattle.word.proofs.Words.{word-lt, bit-word}
 use Rattle.side.specs.Side.{rowWords, rowMasks, sideWords, sideMasks, sidePtr, pairCount, maskFor, rowHolds, sideHolds}
 use Rattle.side.specs.Check.{bitsIn, wordInside, IsRows, IsSide}
 use Rattle.side.specs.Row.{Row}
-use Rattle.side.proofs.Rows.{row-words, row-masks, row-count, words-row}
+use Rattle.side.proofs.Rows.{row-words, row-masks, row-count, words-row, words-le}
 use Rattle.side.proofs.Holding.{row-inside, row-holds, own-row}
 
 -- ---- counts of set bits
@@ -202,6 +202,10 @@ module _ (nrows ncols : ℕ) (s : ℕ → ℕ → Bool) (small : (r c : ℕ) →
       ap (bitsIn (sideMasks nrows ncols s) 0) (as-many nrows)
       ∙ count-to ncols s (sideWords nrows ncols s) (sideMasks nrows ncols s) (λ r. length (sideWords r ncols s)) nrows (ap length (join-none F)) (λ r h. join-up (r + 1) r F (omega arith))
       (λ r h. join-up nrows r F h) in-masks row-in small nrows (le-refl nrows)
+
+  -- it has no more words than pairs
+  pub side-words-le : length (sideWords nrows ncols s) ≤ pairCount nrows ncols s
+  side-words-le = omega (arith, join-count nrows F, sum-le nrows (λ r. length (F r)) (λ r. countBelow ncols (s r)) (λ r h. words-le (s r) ncols (λ c t. small r c h t)))
 
   -- and is a side
   pub side-is : nrows ≤ sideLimit → ncols ≤ sideLimit → length (sideWords nrows ncols s) ≤ entryLimit → pairCount nrows ncols s ≤ entryLimit
