@@ -1,9 +1,9 @@
-// Numbers and lists in a record of bytes, little-endian, 8 bytes each; a list has room for 16 elements.
+// Numbers and lists in a record of bytes, little-endian, 8 bytes each; most lists have room for 16 elements.
 ghost use mathlib.Core.Path.{_≡_};
 ghost use Prim.Native.Nat.{_+_, _*_, _%_, _<_, _≤_};
 ghost use lib.ListN.{length, getD};
 ghost use Rattle.base.specs.Sets.{one-if};
-ghost use Rattle.records.specs.Bytes.{halfAt, numberAt, countAt, listAt, realOf, bytesOf, placed};
+ghost use Rattle.records.specs.Bytes.{halfAt, numberAt, countAt, countWithin, listAt, narrowAt, realOf, bitsOf, bytesOf, placed};
 ghost use mathlib.Core.List.{[], _∷_};
 
 pub fn byte_at(call: &[u8], at: usize) -> u64
@@ -42,6 +42,16 @@ pub fn count_at(call: &[u8], at: usize) -> usize
     if n < 16 { n as usize } else { 16 }
 }
 
+// The same with room for so many.
+pub fn count_within(call: &[u8], at: usize, room: usize) -> usize
+    requires { ⌜ at + 8 ≤ length (now call) ⌝ }
+    ensures { λ r. ⌜ r ≡ countWithin (now (call .entry)) at room ⌝ }
+    ensures { λ r. ⌜ r ≤ room ⌝ }
+{
+    let n = number_at(call, at);
+    if n < room as u64 { n as usize } else { room }
+}
+
 pub fn read_list(call: &[u8], at: usize, list: &mut [u64])
     requires { ⌜ (at + 128 ≤ length (now call)) × (length (now list) ≡ 16) ⌝ }
     ensures { λ _. ⌜ now (list .exit) ≡ listAt (λ x. x) (now (call .entry)) at ⌝ }
@@ -53,12 +63,13 @@ pub fn read_list(call: &[u8], at: usize, list: &mut [u64])
     }
 }
 
+// As many as the list has room for.
 pub fn read_narrow(call: &[u8], at: usize, list: &mut [u32])
-    requires { ⌜ (at + 128 ≤ length (now call)) × (length (now list) ≡ 16) ⌝ }
-    ensures { λ _. ⌜ now (list .exit) ≡ listAt (λ x. x % 4294967296) (now (call .entry)) at ⌝ }
+    requires { ⌜ at + 8 * length (now list) ≤ length (now call) ⌝ }
+    ensures { λ _. ⌜ now (list .exit) ≡ narrowAt (length (now (list .entry))) (now (call .entry)) at ⌝ }
 {
     let mut k: usize = 0;
-    while k < 16 {
+    while k < list.len() {
         list[k] = (number_at(call, at + 8 * k) % 4294967296) as u32;
         k += 1;
     }
@@ -96,6 +107,16 @@ pub fn read_reals(call: &[u8], at: usize, list: &mut [f64])
     }
 }
 
+// The bit pattern of a float; every NaN has one.
+pub fn bits(value: f64) -> u64
+    ensures { λ r. ⌜ r ≡ bitsOf value ⌝ }
+{
+    if value != value {
+        return 0x7ff8_0000_0000_0000;
+    }
+    f64::to_bits(value)
+}
+
 pub fn put_number(out: &mut [u8], at: usize, value: u64)
     requires { ⌜ at + 8 ≤ length (now out) ⌝ }
     ensures { λ _. ⌜ now (out .exit) ≡ placed at (bytesOf (value ∷ []) 8) (now (out .entry)) ⌝ }
@@ -122,6 +143,17 @@ pub fn put_list(out: &mut [u8], at: usize, list: &[u64])
     let mut k: usize = 0;
     while k < list.len() {
         put_number(out, at + 8 * k, list[k]);
+        k += 1;
+    }
+}
+
+pub fn put_narrow(out: &mut [u8], at: usize, list: &[u32])
+    requires { ⌜ at + 8 * length (now list) ≤ length (now out) ⌝ }
+    ensures { λ _. ⌜ now (out .exit) ≡ placed at (bytesOf (now (list .entry)) (8 * length (now (list .entry)))) (now (out .entry)) ⌝ }
+{
+    let mut k: usize = 0;
+    while k < list.len() {
+        put_number(out, at + 8 * k, list[k] as u64);
         k += 1;
     }
 }
