@@ -3,7 +3,7 @@ use mathlib.Core.Path.{_≡_, refl, sym, ap, ap₂, _∙_, subst}
 use mathlib.Core.Logic.{_⊎_, inl, inr}
 use mathlib.Core.Bool.{Bool, true, false, cond, _&&_, _||_}
 use mathlib.Core.List.{List, [], _∷_, _++_, map, append-nil}
-use Prim.Native.Nat.{ℕ, zero, suc, _+_, _-_, _*_, _≤_, _<_}
+use Prim.Native.Nat.{ℕ, zero, suc, _+_, _-_, _*_, _≤_, _<_, max}
 use native.Mathlib.Omega.{arith}
 use native.Mathlib.Nat.{not-suc-le-zero, zero-add, add-zero, add-suc, suc-add, le-refl, le-of-suc-le-suc, mul-suc}
 use native.Mathlib.Numerals.{add-one}
@@ -12,8 +12,8 @@ use lib.Dec.{T}
 use lib.ListN.{length, getD}
 use lib.Seq.{getD-append-seam}
 use Rattle.base.specs.Lists.{every}
-use Rattle.base.specs.Sets.{anyBelow, firstBelow, everyBelow, sumBelow, one-if, countBelow, sumOver, keep, membersFrom, membersBelow}
-use Rattle.base.proofs.Bools.{decide, lt-or-le, and-l, and-r, and-i, or-l, or-r, or-e, T-true, T-false, T-of, not-T-of}
+use Rattle.base.specs.Sets.{anyBelow, firstBelow, everyBelow, sumBelow, largestBelow, one-if, countBelow, sumOver, keep, membersFrom, membersBelow}
+use Rattle.base.proofs.Bools.{bool-ext, decide, lt-or-le, and-l, and-r, and-i, or-l, or-r, or-e, T-true, T-false, T-of, not-T-of}
 
 -- ---- any
 
@@ -42,6 +42,22 @@ any-cong (suc n) p q e = ap₂ _||_ (any-cong n p q (λ i h. e i (omega arith)))
 
 pub any-none : (n : ℕ) (p : ℕ → Bool) → ((i : ℕ) → i < n → T (p i) → ⊥) → anyBelow n p ≡ false
 any-none n p f = T-false (anyBelow n p) (λ t. let r : (i : ℕ) × (i < n) × T (p i) = any-e n p t in f (r .0) (r .1) (r .2))
+
+-- nothing between passes
+pub any-past : (len n : ℕ) (p : ℕ → Bool) → len ≤ n → ((i : ℕ) → len ≤ i → i < n → T (p i) → ⊥) → anyBelow n p ≡ anyBelow len p
+any-past len n p h none =
+    bool-ext (anyBelow n p) (anyBelow len p)
+    (λ t. let r : (i : ℕ) × (i < n) × T (p i) = any-e n p t in go (r .0) (r .1) (r .2) (lt-or-le (r .0) len))
+    (λ t. let r : (i : ℕ) × (i < len) × T (p i) = any-e len p t in any-i n p (r .0) (omega arith) (r .2))
+  where
+    go : (i : ℕ) → i < n → T (p i) → (i < len) ⊎ (len ≤ i) → T (anyBelow len p)
+    go i l t (inl b) = any-i len p i b t
+    go i l t (inr b) = absurd (none i b l t)
+
+-- a member alone, and what is below it
+pub any-next : (n : ℕ) (p : ℕ → Bool) → anyBelow (n + 1) p ≡ (anyBelow n p || p n)
+unfolding anyBelow
+any-next n p = ap (λ (k : ℕ). anyBelow k p) (add-one n)
 
 -- nothing below n passes: what a scan that found nothing says
 abbrev pub None : (ℕ → Bool) → ℕ → Type 0
@@ -221,6 +237,38 @@ sum-split n p q r f e d =
     one i true true x = absurd (x tt tt)
     one i true false x = omega arith
     one i false b x = omega arith
+
+-- a sum over members is at most the sum over all
+pub over-le : (n : ℕ) (p : ℕ → Bool) (f : ℕ → ℕ) → sumOver n p f ≤ sumBelow n f
+over-le n p f = sum-le n (λ i. cond (p i) (f i) 0) f (λ i h. one (p i) (f i))
+  where
+    one : (b : Bool) (x : ℕ) → cond b x 0 ≤ x
+    one true x = omega arith
+    one false x = omega arith
+
+-- nothing between counts
+pub over-past : (len n : ℕ) (p : ℕ → Bool) (f : ℕ → ℕ) → len ≤ n → ((i : ℕ) → len ≤ i → i < n → T (p i) → ⊥) → sumOver n p f ≡ sumOver len p f
+over-past len n p f h none =
+    let e : len + (n - len) ≡ n = omega arith in
+    let z : sumBelow (n - len) (λ j. cond (p (len + j)) (f (len + j)) 0) ≡ 0 =
+    sum-cong (n - len) (λ j. cond (p (len + j)) (f (len + j)) 0) (λ j. 0)
+    (λ j l. ap (λ (v : Bool). cond v (f (len + j)) 0) (T-false (p (len + j)) (none (len + j) (omega arith) (omega arith)))) ∙ sum-none (n - len) in
+    omega (arith, sum-append len (n - len) (λ i. cond (p i) (f i) 0), ap (λ (k : ℕ). sumOver k p f) e)
+
+-- ---- the largest
+
+pub largest-none : (f : ℕ → ℕ) → largestBelow 0 f ≡ 0
+unfolding largestBelow
+largest-none f = refl
+
+pub largest-next : (n : ℕ) (f : ℕ → ℕ) → largestBelow (n + 1) f ≡ max (largestBelow n f) (f n)
+unfolding largestBelow
+largest-next n f = ap (λ (k : ℕ). largestBelow k f) (add-one n)
+
+pub largest-le : (n m : ℕ) (f : ℕ → ℕ) → ((i : ℕ) → i < n → f i ≤ m) → largestBelow n f ≤ m
+unfolding largestBelow
+largest-le zero m f h = omega arith
+largest-le (suc n) m f h = omega (arith, largest-le n m f (λ i l. h i (omega arith)), h n (omega arith))
 
 -- ---- counts
 

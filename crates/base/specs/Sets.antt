@@ -1,8 +1,8 @@
 -- A set of numbers is a predicate `ℕ → Bool`. What is said of the members below a bound: whether there is one, which is the first, whether all
--- are, how many, a sum over them, and the members in rising order.
+-- are, how many, a sum over them, the largest, and the members in rising order.
 use mathlib.Core.Bool.{Bool, true, false, cond, _&&_, _||_}
 use mathlib.Core.List.{List, [], _∷_}
-use Prim.Native.Nat.{ℕ, zero, suc, _+_}
+use Prim.Native.Nat.{ℕ, zero, suc, _+_, max}
 use lib.Dec.{leb, ltb, eqb}
 
 -- the numbers from lo up to, and without, hi
@@ -32,6 +32,11 @@ everyBelow (suc n) p = everyBelow n p && p n
 unfoldable pub sumBelow : ℕ → (ℕ → ℕ) → ℕ
 sumBelow zero f = 0
 sumBelow (suc n) f = sumBelow n f + f n
+
+-- the largest of f 0, f 1, … , n of them, or 0 where there is none
+unfoldable pub largestBelow : ℕ → (ℕ → ℕ) → ℕ
+largestBelow zero f = 0
+largestBelow (suc n) f = max (largestBelow n f) (f n)
 
 abbrev pub one-if : Bool → ℕ
 one-if true = 1

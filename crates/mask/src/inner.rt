@@ -5,12 +5,12 @@ use word::AbtmTopologyWord;
 use word::Operation;
 ghost use mathlib.Core.Path.{_≡_};
 ghost use mathlib.Core.Bool.{true, false, _&&_};
-ghost use Prim.Native.Nat.{_<_, _≤_, _*_};
+ghost use Prim.Native.Nat.{_+_, _-_, _<_, _≤_, _*_};
 ghost use lib.ListN.{length};
 ghost use lib.Dec.{ltb};
 ghost use Rattle.base.specs.Checks.{sideLimit};
 ghost use Rattle.base.specs.Lists.{every, below, isIn, over};
-ghost use Rattle.base.specs.Sets.{anyBelow, countBelow, membersBelow};
+ghost use Rattle.base.specs.Sets.{anyBelow, firstBelow, countBelow, membersBelow};
 ghost use Rattle.word.specs.Bits.{wordOf};
 ghost use Rattle.word.specs.Answers.{on};
 ghost use Rattle.mask.specs.Mask.{inMask, wordsFor, maskWords, shapeCheck, lengthCheck, IsMask};
@@ -60,6 +60,17 @@ pub fn clear(len: usize, words: &mut [u64])
     let mut w: usize = 0;
     while w < words.len() {
         words[w] = 0;
+        w += 1;
+    }
+}
+
+pub fn copy(len: usize, words: &[u64], out: &mut [u64])
+    requires { ⌜ IsMask len (now words) × (length (now out) ≡ wordsFor len) ⌝ }
+    ensures { λ _. ⌜ now (out .exit) ≡ now (words .entry) ⌝ }
+{
+    let mut w: usize = 0;
+    while w < words.len() {
+        out[w] = words[w];
         w += 1;
     }
 }
@@ -147,6 +158,30 @@ pub fn combine(len: usize, words: &mut [u64], other: &[u64], op: Operation)
         words[w] = op.apply(words[w], other[w]);
         w += 1;
     }
+}
+
+// The first member at or after `from`, or the length. Words without a member are passed over whole.
+pub fn next_member(len: usize, words: &[u64], from: usize) -> usize
+    requires { ⌜ IsMask len (now words) × (from ≤ len) ⌝ }
+    ensures { λ r. ⌜ r ≡ from + firstBelow (len - from) (λ j. inMask (now (words .entry)) (from + j)) ⌝ }
+{
+    if from == len {
+        return len;
+    }
+    let mut w = from / AbtmTopologyWord::BITS;
+    let ahead = words[w] >> (from % AbtmTopologyWord::BITS);
+    if ahead != 0 {
+        return from + u64::trailing_zeros(ahead) as usize;
+    }
+    w += 1;
+    while w < words.len() {
+        let bits = words[w];
+        if bits != 0 {
+            return w * AbtmTopologyWord::BITS + u64::trailing_zeros(bits) as usize;
+        }
+        w += 1;
+    }
+    len
 }
 
 // The members in rising order at the front of `out`, which has room for them.

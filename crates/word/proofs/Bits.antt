@@ -2,7 +2,7 @@
 use mathlib.Core.Bool.{Bool, false, not, _&&_, _||_, cond}
 use mathlib.Core.List.{List, [], _∷_, map}
 use mathlib.Core.Path.{_≡_, refl, sym, ap, ap₂, subst, _∙_}
-use Prim.Native.Nat.{ℕ, zero, suc, _+_, _-_, _*_, _/_, _%_, _^_, _<_, min, max}
+use Prim.Native.Nat.{ℕ, zero, suc, _+_, _-_, _*_, _/_, _%_, _^_, _≤_, _<_, min, max}
 use native.Mathlib.Nat.{div-one, mod-lt, zero-lt-suc, lt-of-le-of-lt, pow-suc, mod-eq-of-lt, one-mul, zero-mul, div-eq-of-lt, mul-div-cancel, mul-mod-left}
 use native.Mathlib.Numerals.{add-one, one-add}
 use native.Mathlib.Nat.{zero-add}
@@ -11,12 +11,12 @@ use borrow.Author.Tests.{ne-eqb}
 use lib.Arith.{lt-one, digits-mod}
 use lib.Bits.{bitAnd, bitOr, and-step, or-step, and-self, and-mask, and-le-r, and-shr, or-shr, and-high, bitXor, differ, xor-step, xor-shr}
 use lib.Count.{ones, onesIn, ones-step, trailingZeros}
-use lib.Dec.{eqb, eqb·suc-suc, eqb·zero-suc, eqb·suc-zero}
-use lib.ListN.{length, length-map}
+use lib.Dec.{T, eqb, eqb·suc-suc, eqb·zero-suc, eqb·suc-zero}
+use lib.ListN.{length, length-map, getD}
 use lib.Pow.{pow-pos, pow-lt, shr-shr, shr-lt, field, mod-mod-pow}
-use Rattle.base.specs.Sets.{keep, membersFrom, countBelow}
+use Rattle.base.specs.Sets.{keep, membersFrom, membersBelow, countBelow}
 use Rattle.base.proofs.Bools.{not-T-of}
-use Rattle.base.proofs.Sets.{members-suc, members-zero, members-up, members-ext, members-none, count-members}
+use Rattle.base.proofs.Sets.{First, members-suc, members-zero, members-up, members-ext, members-none, members-at, count-members, count-getD, count-pos}
 use Rattle.word.specs.Bits.{bitAt}
 
 -- ---- a bit at a time, lowest first
@@ -122,6 +122,21 @@ lowest (suc k) m p h = go (m % 2) refl (λ q. lowest k (m / 2) q (half-lt k h))
     go (suc (suc d)) e ih = absurd (omega (arith, mod-lt m (zero-lt-suc 1)))
 
 -- a word with no bit set
+-- trailing zeros: the place of the lowest set bit
+pub first-bit : (k m : ℕ) → 0 < m → m < 2 ^ k → (trailingZeros k m < k) × First k (bitAt m) (trailingZeros k m)
+first-bit k m p h =
+    let is : getD (membersBelow k (bitAt m)) 0 0 ≡ trailingZeros k m = ap (λ (l : List ℕ). getD l 0 0) (lowest k m p h) in
+    let some : 0 < length (membersBelow k (bitAt m)) = omega (arith, ap (λ (l : List ℕ). length l) (lowest k m p h)) in
+    let at : (0 ≤ getD (membersBelow k (bitAt m)) 0 0) × (getD (membersBelow k (bitAt m)) 0 0 < 0 + k) × T (bitAt m (getD (membersBelow k (bitAt m)) 0 0)) = members-at (bitAt m) 0 k 0 some in
+    let none : countBelow (trailingZeros k m) (bitAt m) ≡ 0 = ap (λ (n : ℕ). countBelow n (bitAt m)) (sym is) ∙ count-getD k (bitAt m) 0 some in (
+      omega (arith, is, at .1),
+      record {
+        within = omega (arith, is, at .1);
+        passes = λ l. subst (λ (n : ℕ). T (bitAt m n)) is (at .2);
+        before = λ j l u. absurd (omega (arith, none, count-pos (trailingZeros k m) (bitAt m) j l u));
+      },
+    )
+
 pub zero-bit : (i : ℕ) → bitAt 0 i ≡ false
 unfolding bitAt
 zero-bit i = ap (λ (x : ℕ). eqb (x % 2) 1) (div-eq-of-lt (pow-pos i))

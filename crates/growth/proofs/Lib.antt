@@ -1,0 +1,5 @@
+pub mod Takes
+pub mod Settles
+pub mod Visits
+pub mod Expansion
+pub mod Growing
