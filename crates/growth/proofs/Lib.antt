@@ -3,3 +3,4 @@ pub mod Settles
 pub mod Visits
 pub mod Expansion
 pub mod Growing
+pub mod Lent
