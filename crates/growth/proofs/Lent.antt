@@ -9,11 +9,13 @@ use lib.ListN.{length, getD, take, drop, replicate, length-append, length-drop}
 use lib.Seq.{take-append-seam}
 use Rattle.base.specs.Checks.{sideLimit}
 use Rattle.base.specs.Lists.{over}
+use Rattle.base.specs.Sets.{countBelow}
 use Rattle.base.specs.declared.Checked.{Checked}
 use Rattle.base.proofs.Checks.{both-passed, passed, length-passed}
-use Rattle.mask.specs.Mask.{wordsFor, maskWords, lengthCheck, IsMask}
-use Rattle.mask.proofs.Masks.{accepted-shape, mask-is, mask-length, mask-none}
-use Rattle.graph.specs.Network.{Network, regionWords, frontierWords}
+use Rattle.base.proofs.Sets.{count-cong}
+use Rattle.mask.specs.Mask.{inMask, wordsFor, maskWords, lengthCheck, IsMask}
+use Rattle.mask.proofs.Masks.{mask-holds, accepted-shape, mask-is, mask-length, mask-none}
+use Rattle.graph.specs.Network.{Network, inRegion, regionWords, frontierWords}
 use Rattle.growth.specs.Lent.{masksRoom}
 
 -- for mask: a mask of the length that it must have
@@ -65,3 +67,8 @@ module _ (part answer lent : List ℕ) (need : ℕ) (e : part ≡ answer) (l : n
 pub region-is : (g : Network) (seeds : List ℕ) (h : ℕ) → g .nodes ≤ sideLimit → IsMask (g .nodes) (regionWords g seeds h)
 unfolding regionWords
 region-is g seeds h l = mask-is (g .nodes) _ l
+
+-- the region's nodes, counted in its words
+pub region-count : (g : Network) (seeds region : List ℕ) (h : ℕ) → region ≡ regionWords g seeds h → countBelow (g .nodes) (inMask region) ≡ countBelow (g .nodes) (inRegion g (inMask seeds) h)
+unfolding regionWords
+region-count g seeds region h e = count-cong (g .nodes) (inMask region) (inRegion g (inMask seeds) h) (λ i l. ap (λ (w : List ℕ). inMask w i) e ∙ mask-holds (g .nodes) (inRegion g (inMask seeds) h) i l)

@@ -7,15 +7,13 @@ use lib.ListN.{length, getD}
 use Rattle.base.specs.Sets.{countBelow}
 use Rattle.base.specs.declared.Checked.{Checked}
 use Rattle.base.proofs.Checks.{both-passed, passed}
-use Rattle.base.proofs.Sets.{count-cong}
 use Rattle.mask.specs.Mask.{inMask, wordsFor, IsMask}
-use Rattle.mask.proofs.Masks.{mask-holds}
 use Rattle.dual_topology.specs.Check.{topologyCheck, IsTopology}
 use Rattle.dual_topology.proofs.Accepted.{accepted-topology}
-use Rattle.graph.specs.Network.{Network, inRegion, regionWords}
+use Rattle.graph.specs.Network.{Network, regionWords}
 use Rattle.growth.specs.Visits.{grownBy}
 use Rattle.growth.specs.declared.Grown.{Grown}
-use Rattle.growth.proofs.Lent.{accepted-length, masks-fit}
+use Rattle.growth.proofs.Lent.{accepted-length, masks-fit, region-count}
 use Rattle.region.specs.Growth.{growCheck, growthStats}
 use Rattle.region.specs.declared.AbtmRegionGrowthStats.{AbtmRegionGrowthStats}
 
@@ -45,11 +43,6 @@ accepted-growth nrows ncols ptr idx masks pairs nrows2 ncols2 ptr2 idx2 masks2 p
       frontier-room = room .1;
       scratch-room = room .2;
     }
-
--- the region's nodes, counted in its words
-pub region-count : (g : Network) (seeds region : List ℕ) (h : ℕ) → region ≡ regionWords g seeds h → countBelow (g .nodes) (inMask region) ≡ countBelow (g .nodes) (inRegion g (inMask seeds) h)
-unfolding regionWords
-region-count g seeds region h e = count-cong (g .nodes) (inMask region) (inRegion g (inMask seeds) h) (λ i l. ap (λ (w : List ℕ). inMask w i) e ∙ mask-holds (g .nodes) (inRegion g (inMask seeds) h) i l)
 
 abbrev stats : ℕ → Grown → ℕ → ℕ → AbtmRegionGrowthStats
 stats h grown seeds region =

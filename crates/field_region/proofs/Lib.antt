@@ -1,0 +1,4 @@
+pub mod Closing
+pub mod Owning
+pub mod Growing
+pub mod Accepted
