@@ -20,6 +20,7 @@ ghost use Rattle.hybit_matrix.specs.Flat.{refusedWith, answeredWith, ans
 pub mod both_sides;
 pub mod layout;
 pub mod one_side;
+pub mod regions;
 
 // number: the refusal's number, or 0. present: there is an answer (false after a refusal, and where the answer is none).
 // value: the count, the bit, or 1 for yes and 0 for no.
