@@ -15,7 +15,7 @@ ghost use Rattle.word.specs.Answers as word;
 ghost use Rattle.csr32.specs.Matrix.{matrixCheck};
 ghost use Rattle.mask.specs.Mask.{maskCheck};
 ghost use Rattle.mask.specs.Answers.{newCheck, newWords, fromCheck, fromWords, emptyAnswer, countAnswer, containsAnswer, setCheck, setWords, pairCheck, combinedWords, union, intersection, andNot, intersectsAnswer, indicesAnswer, indicesList, orWordWords};
-ghost use Rattle.hybit_matrix.specs.Flat.{refusedWith, answeredWith, answeredNone, flatChecked, flatTruth, flatCounted, flatRanked, flatSelected};
+ghost use Rattle.hybit_matrix.specs.Flat.{refusedWith, answeredWith, flatChecked, flatTruth, flatCounted, flatRanked, flatSelected};
 
 pub mod both_sides;
 pub mod layout;

@@ -14,7 +14,7 @@ ghost use Rattle.side.specs.Check.{sideCheck};
 ghost use Rattle.side.specs.Built.{builtPtr, builtWords, builtMasks};
 ghost use Rattle.side_sets.specs.Sets.{pairwisePairs};
 ghost use Rattle.topology.specs.Answers.{buildCheck, setsCheck, builtAnswer, statsAnswer};
-ghost use Rattle.hybit_matrix.specs.Flat.{flatChecked, pairRefused, pairWith};
+ghost use Rattle.hybit_matrix.specs.Flat.{flatChecked};
 ghost use Rattle.hybit_matrix.specs.FlatTopology.{flatStated, flatBuilt};
 
 // Counts, bytes and the three ratios; all 0 on a refusal.

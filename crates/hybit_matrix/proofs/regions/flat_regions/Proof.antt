@@ -1,8 +1,6 @@
 -- `hybit_matrix::regions::flat_regions` meets its contract. Assumes nothing.
 use borrow.Author.Needs.{needs}
-use mathlib.Core.Path.{sym, ap, ap₂, _∙_}
-use mathlib.Core.Bool.{true}
-use Prim.Native.Nat.{ℕ}
+use mathlib.Core.Path.{sym, ap}
 use Rattle.hybit_matrix.specs.FlatRegions.{flatRegions}
 use Rattle.hybit_matrix.proofs.regions.flat_regions.Statement.{statement}
 use Rattle.hybit_matrix.proofs.regions.flat_regions.Tie as tie
