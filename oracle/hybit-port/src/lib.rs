@@ -1,8 +1,10 @@
 //! The port's exported functions as C sees them, and the flat records that
 //! they answer with. Slices pass as a pointer and a length.
 
+mod growth;
 mod topology;
 
+pub use growth::*;
 pub use topology::*;
 
 #[repr(C)]

@@ -119,6 +119,7 @@ macro_rules! on_two_sides {
         }
     };
 }
+pub(crate) use on_two_sides;
 
 /// Set operations: two sides, then the lists of the answer.
 macro_rules! operations {
