@@ -2,7 +2,7 @@
 
 /// So many values at most in an answer. The port's records differ in theirs;
 /// those that a record lacks are 0 here.
-pub const VALUES: usize = 8;
+pub const VALUES: usize = 10;
 
 /// The fields of all of the port's records.
 #[derive(Clone, Copy, Debug, PartialEq, Eq)]
@@ -89,6 +89,75 @@ impl From<hybit_port::DualStatsAnswer> for Answer {
                 flat.column_metadata_bytes,
                 flat.total_metadata_bytes,
                 flat.metadata_bytes_per_nnz.to_bits(),
+            ])
+        }
+    }
+}
+
+impl From<hybit_port::GrowthAnswer> for Answer {
+    fn from(flat: hybit_port::GrowthAnswer) -> Self {
+        Self {
+            number: flat.number,
+            present: flat.present,
+            expected: flat.expected,
+            actual: flat.actual,
+            ..Self::told_all(&[
+                flat.hops_requested,
+                flat.hops_completed,
+                flat.seed_nodes,
+                flat.region_nodes,
+                flat.frontier_nodes_visited,
+                flat.row_words_visited,
+                flat.column_words_visited,
+                flat.candidate_neighbor_bits,
+                flat.topology_words_visited,
+                flat.new_nodes,
+            ])
+        }
+    }
+}
+
+impl From<hybit_port::FieldGrowthAnswer> for Answer {
+    fn from(flat: hybit_port::FieldGrowthAnswer) -> Self {
+        Self {
+            number: flat.number,
+            present: flat.present,
+            expected: flat.expected,
+            actual: flat.actual,
+            ..Self::told_all(&[
+                flat.hops_requested,
+                flat.hops_completed,
+                flat.seed_dofs,
+                flat.block_closed_seed_dofs,
+                flat.region_dofs,
+                flat.region_blocks,
+                flat.frontier_dofs_visited,
+                flat.row_words_visited,
+                flat.column_words_visited,
+                flat.candidate_neighbor_bits,
+            ])
+        }
+    }
+}
+
+impl From<hybit_port::MultiplicityAnswer> for Answer {
+    fn from(flat: hybit_port::MultiplicityAnswer) -> Self {
+        Self {
+            number: flat.number,
+            present: flat.present,
+            expected: flat.expected,
+            actual: flat.actual,
+            ..Self::told_all(&[
+                flat.region_count,
+                flat.node_count,
+                flat.total_memberships,
+                flat.covered_nodes,
+                flat.overlap_nodes,
+                flat.max_multiplicity,
+                flat.pair_overlap_memberships,
+                flat.extra_memberships,
+                flat.average_multiplicity_on_covered.to_bits(),
+                flat.overlap_fraction_on_covered.to_bits(),
             ])
         }
     }

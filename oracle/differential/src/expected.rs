@@ -18,11 +18,14 @@ pub const SIDE_LIMIT: usize = 1_048_576;
 /// 01: "either entry list, a topology's words or pairs [..] over 16,777,216".
 pub const ENTRY_LIMIT: usize = 16_777_216;
 
+/// 01: "regions over 65,536".
+pub const REGION_LIMIT: usize = 65_536;
+
 /// 01 takes the Rust on a 64-bit machine as the reference.
 const _: () = assert!(usize::BITS == 64);
 
 /// The number that 01 gives to an error of the Rust.
-const NUMBERS: [(&str, u32); 17] = [
+const NUMBERS: [(&str, u32); 21] = [
     ("row_ptr length must equal nrows + 1", 2),
     ("col_idx and values lengths differ", 3),
     ("row_ptr[0] must be zero", 4),
@@ -30,6 +33,7 @@ const NUMBERS: [(&str, u32); 17] = [
     ("row_ptr must be monotonically nondecreasing", 6),
     ("column index out of range", 7),
     ("matrix contains NaN or infinity", 8),
+    ("ABTM region growth requires a square topology", 10),
     ("DOF mask index out of range", 13),
     ("ABTM topology rank offset out of range", 13),
     ("DOF layout requires at least one block", 14),
@@ -37,6 +41,9 @@ const NUMBERS: [(&str, u32); 17] = [
     ("duplicate DOF entity/field block", 16),
     ("unknown DOF entity kind", 17),
     ("square matrix dimensions disagree with DOF layout", 18),
+    ("MPI rank count must be positive", 19),
+    ("DOF owner rank out of range", 20),
+    ("MPI ownership splits a physical field block", 21),
     ("ABTM topology row index out of range", 13),
     ("ABTM topology row rank column out of range", 13),
     ("ABTM topology dimensions differ", 22),
@@ -79,7 +86,7 @@ pub fn refusal(error: HybitError) -> Answer {
 }
 
 /// Added refusal 25, else the answer over the front of the output list.
-pub fn write(answer: &[u64], out: &mut [u64]) -> Result<(), Answer> {
+pub fn write<T: Copy>(answer: &[T], out: &mut [T]) -> Result<(), Answer> {
     match out.get_mut(..answer.len()) {
         Some(front) => {
             front.copy_from_slice(answer);

@@ -5,6 +5,7 @@
 //! `groups!`.
 
 mod csr32;
+mod growth;
 mod layout;
 mod mask;
 mod topology;
@@ -133,6 +134,7 @@ groups! {
     Mask(mask),
     Layout(layout),
     Topology(topology),
+    Growth(growth),
 }
 
 pub fn named(name: &str) -> Option<&'static Group> {

@@ -41,6 +41,22 @@ impl<'call> Parts<'call> {
         self.read(name, list)
     }
 
+    /// Places in a record that only other calls of the group have lists for.
+    pub fn absent(mut self, places: usize) -> Self {
+        for _ in 0..places {
+            self = self.read("", List::U64(&mut []));
+        }
+        self
+    }
+
+    /// The same among the lists that a call may write.
+    pub fn absent_written(mut self, places: usize) -> Self {
+        for _ in 0..places {
+            self = self.written("", List::U64(&mut []));
+        }
+        self
+    }
+
     pub fn show_numbers(&self) -> String {
         self.numbers
             .iter()
@@ -51,6 +67,7 @@ impl<'call> Parts<'call> {
     pub fn show_lists(&self) -> String {
         self.lists
             .iter()
+            .filter(|(name, _)| !name.is_empty())
             .map(|(name, list)| format!("  {name} = {}\n", shown(&list.widened())))
             .collect()
     }

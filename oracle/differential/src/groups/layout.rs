@@ -4,12 +4,16 @@ mod cases;
 mod examples;
 mod expected;
 mod fixed;
-mod offsets;
+pub mod offsets;
 mod orders;
 mod port;
 mod questions;
 mod random;
 mod small;
+
+pub use cases::{Block, built, numbered};
+pub use expected::accepted_layout;
+pub use random::{damage_blocks, damage_offsets, plant_fault};
 
 use super::{Function, GroupCall, GroupCalls};
 use crate::answer::Answer;
@@ -147,7 +151,7 @@ impl Blocks {
 
     /// How many of ids, fields and components have the right length before the
     /// first that has not.
-    fn right_lists(&self) -> u64 {
+    pub fn right_lists(&self) -> u64 {
         let lengths = [self.ids.len(), self.fields.len(), self.components.len()];
         lengths
             .iter()

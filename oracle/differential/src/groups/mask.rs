@@ -8,7 +8,8 @@ mod port;
 mod random;
 mod small;
 
-pub use expected::words_needed;
+pub use cases::{full, of_index, random_right};
+pub use expected::{check_words, words_needed};
 
 use super::{Function, GroupCall, GroupCalls};
 use crate::answer::Answer;

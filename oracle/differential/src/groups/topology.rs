@@ -3,7 +3,7 @@
 mod cases;
 mod examples;
 mod expected;
-mod faults;
+pub mod faults;
 mod fixed;
 mod limits;
 mod matrices;
@@ -13,6 +13,10 @@ mod random;
 mod rooms;
 mod small;
 mod wide;
+
+pub use cases::{Pair, topology as of_pairs};
+pub use expected::accepted_topology;
+pub use random::break_side;
 
 use super::csr32::Matrix;
 use super::{Function, GroupCall, GroupCalls};
@@ -266,7 +270,7 @@ impl Side {
 }
 
 impl Topology {
-    fn parts(&mut self) -> Parts<'_> {
+    pub fn parts(&mut self) -> Parts<'_> {
         let parts = self.rows.add_to(Parts::new(), names!("rows."));
         self.columns.add_to(parts, names!("columns."))
     }

@@ -61,7 +61,7 @@ fn asked(layout: &Layout, question: &mut Question) -> Result<Answer, Answer> {
 
 /// Added refusal 26: "a layout's offset list, length included, is not its
 /// running totals".
-fn accepted_layout(layout: &Layout) -> Result<FieldAwareDofLayout, Answer> {
+pub fn accepted_layout(layout: &Layout) -> Result<FieldAwareDofLayout, Answer> {
     let rust = accepted_blocks(&layout.blocks)?;
     if layout.offsets != offsets(&rust) {
         return Err(Answer::refused(26));

@@ -68,7 +68,7 @@ fn random_list(rng: &mut Rng) -> Vec<Block> {
     list
 }
 
-fn plant_fault(rng: &mut Rng, list: &mut [Block]) {
+pub fn plant_fault(rng: &mut Rng, list: &mut [Block]) {
     let at = rng.below(list.len());
     let from = rng.below(at + 1);
     match rng.below(16) {
@@ -86,7 +86,7 @@ fn plant_fault(rng: &mut Rng, list: &mut [Block]) {
     }
 }
 
-fn damage_offsets(rng: &mut Rng, list: &mut Vec<u64>) {
+pub fn damage_offsets(rng: &mut Rng, list: &mut Vec<u64>) {
     if list.len() < 20 {
         let damaged = offsets::damaged(list);
         list.clone_from(&damaged[rng.below(damaged.len())]);
@@ -101,7 +101,7 @@ fn damage_offsets(rng: &mut Rng, list: &mut Vec<u64>) {
 }
 
 /// Makes one of the four lists a little shorter or longer, or empty.
-fn damage_blocks(rng: &mut Rng, blocks: &mut Blocks) {
+pub fn damage_blocks(rng: &mut Rng, blocks: &mut Blocks) {
     let count = blocks.kinds.len();
     let length = rng.pick(&[0, count.saturating_sub(1), count + 1, count + 2]);
     match rng.below(7) {

@@ -114,7 +114,7 @@ fn check_length(len: usize) -> Result<(), Answer> {
 /// "11 for its word count (the length divided by 64, rounded up)", then 12,
 /// "a bit at or past the length". Both added: the Rust cannot be handed such a
 /// mask.
-fn check_words(mask: &Mask) -> Result<(), Answer> {
+pub fn check_words(mask: &Mask) -> Result<(), Answer> {
     let needed = words_needed(mask.len);
     if mask.words.len() != needed {
         return Err(Answer::wrong_length(needed, mask.words.len()));
@@ -134,7 +134,7 @@ pub fn words_needed(len: usize) -> usize {
 
 impl Mask {
     /// The original's type, made by hand.
-    fn open(&self) -> DofMask {
+    pub fn open(&self) -> DofMask {
         DofMask {
             len: self.len,
             words: self.words.clone(),

@@ -111,7 +111,7 @@ fn random_side(rng: &mut Rng) -> Side {
 
 /// One change of a side; some leave it right, or without effect where a list
 /// is too short for them.
-fn break_side(rng: &mut Rng, side: &mut Side) {
+pub fn break_side(rng: &mut Rng, side: &mut Side) {
     match rng.below(9) {
         0 => {
             let length = side.row_word_ptr.len();
