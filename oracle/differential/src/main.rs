@@ -7,6 +7,7 @@
 //! differential record FOLDER           writes recorded answers
 //! differential record-layout FOLDER    writes those of the calls on layouts
 //! differential record-topology FOLDER  writes those of the calls on topologies
+//! differential record-growth FOLDER    writes those of the calls on regions
 //! differential self-test               wrong expectations must be reported
 //! ```
 

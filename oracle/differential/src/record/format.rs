@@ -10,6 +10,13 @@ const LIST: usize = 16;
 /// multiple of LIST, so that such a list can be read in parts.
 const LONG: usize = 144;
 
+/// The same of the masks that a growth takes and writes, in words; four of them
+/// are as long as LIST.
+const MASK: usize = 4;
+
+/// The same of counts, one for each node of several regions; a multiple of LIST.
+const COUNTS: usize = 80;
+
 /// The formats, each with the argument that asks for it.
 pub static FORMATS: &[Format] = &[
     Format {
@@ -51,6 +58,23 @@ pub static FORMATS: &[Format] = &[
         accepted: 4,
         refused: 1,
         seed: 5,
+    },
+    // Two sides, a layout, then four masks: what is handed in and the three
+    // that are written, with room for few words each, so that they stand in a
+    // list's room together; then counts or owners by block.
+    Format {
+        argument: "record-growth",
+        groups: &["growth"],
+        numbers: 8,
+        lists: &[
+            LIST, LIST, LIST, LIST, LIST, LIST, LIST, LIST, LIST, LIST, LIST, MASK, MASK, MASK,
+            MASK, COUNTS,
+        ],
+        values: 10,
+        written: &[MASK, MASK, MASK, COUNTS],
+        accepted: 6,
+        refused: 3,
+        seed: 6,
     },
 ];
 
