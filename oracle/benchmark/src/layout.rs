@@ -1,7 +1,7 @@
 //! Layouts: building one, and the calls on one.
 
-mod blocks;
-mod port;
+pub mod blocks;
+pub mod port;
 
 use std::cell::RefCell;
 

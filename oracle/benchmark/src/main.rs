@@ -4,12 +4,15 @@
 //! ```text
 //! benchmark               all rows but the slowest
 //! benchmark long          all rows
-//! benchmark GROUP [long]  those of layout or of topology
+//! benchmark GROUP [long]  those of layout, of topology or of growth
 //! ```
 
+mod growth;
 mod layout;
 mod measure;
 mod memory;
+#[cfg(repeated)]
+mod rest;
 mod topology;
 
 use std::env;
@@ -21,6 +24,8 @@ use measure::Table;
 /// built for: `target-cpu=native` would favour the Rust.
 const _: () = assert!(!cfg!(target_feature = "sse3"), "built with target-cpu");
 
+const GROUPS: [&str; 3] = ["layout", "topology", "growth"];
+
 fn main() {
     let arguments: Vec<String> = env::args().skip(1).collect();
     let arguments: Vec<&str> = arguments.iter().map(String::as_str).collect();
@@ -31,20 +36,24 @@ fn main() {
         [group, "long"] => (Some(*group), true),
         _ => usage(),
     };
-    if group.is_some_and(|group| !["layout", "topology"].contains(&group)) {
+    if group.is_some_and(|group| !GROUPS.contains(&group)) {
         usage();
     }
+    let wanted = |name| group.is_none_or(|group| group == name);
     let mut table = Table::new();
-    if group != Some("topology") {
+    if wanted("layout") {
         layout::rows(&mut table);
     }
-    if group != Some("layout") {
+    if wanted("topology") {
         topology::rows(&mut table, long);
+    }
+    if wanted("growth") {
+        growth::rows(&mut table, long);
     }
     table.finish();
 }
 
 fn usage() -> ! {
-    println!("usage: benchmark [layout | topology] [long]");
+    println!("usage: benchmark [{}] [long]", GROUPS.join(" | "));
     exit(1);
 }

@@ -12,7 +12,7 @@ const FEW: usize = 3;
 
 /// A sample of several calls takes at least so long, so that the clock's own
 /// time and its steps do not count.
-const SAMPLE_TIME: Duration = Duration::from_millis(1);
+pub const SAMPLE_TIME: Duration = Duration::from_millis(1);
 
 /// Takes one sample: the time of one call in microseconds.
 pub type Sample<'a> = Box<dyn FnMut() -> f64 + 'a>;
@@ -54,7 +54,7 @@ pub fn repeated<'a, O>(mut work: impl FnMut(usize) -> O + 'a) -> Sample<'a> {
     })
 }
 
-fn microseconds(time: Duration) -> f64 {
+pub fn microseconds(time: Duration) -> f64 {
     time.as_secs_f64() * 1e6
 }
 
@@ -80,6 +80,10 @@ impl Table {
         println!(
             "figures are the most that it holds while it builds, and what is left of that then."
         );
+        println!(
+            "`without checks`: many growths of the port after one check, less one growth after"
+        );
+        println!("one check; the Rust's growth checks nothing but the sizes.");
         println!();
         println!(
             "{:<28} {:<46} {:>12} {:>12} {:>12} {:>7}",
@@ -90,8 +94,14 @@ impl Table {
         }
     }
 
-    /// Measures and prints one row.
-    pub fn row(&mut self, call: &str, input: &str, mut port: Sample, mut rust: Option<Sample>) {
+    /// Measures and prints one row; the port's time.
+    pub fn row(
+        &mut self,
+        call: &str,
+        input: &str,
+        mut port: Sample,
+        mut rust: Option<Sample>,
+    ) -> f64 {
         let start = Instant::now();
         let mut port_times = vec![port()];
         let mut rust_times: Vec<f64> = rust.iter_mut().map(|rust| rust()).collect();
@@ -108,6 +118,7 @@ impl Table {
             (format!("{rust:.3}"), format!("{:.2}", port / rust))
         };
         println!("{call:<28} {input:<46} {port:>12.3} {rust:>12} {ratio:>12} {samples:>7}");
+        port
     }
 
     /// Prints under a row what the lent lists take, and the Rust at most and in
@@ -117,6 +128,17 @@ impl Table {
         println!(
             "{:<28} lent lists {lent:.1}; the Rust at most {most:.1}, then {left:.1}",
             "  memory"
+        );
+    }
+
+    /// Prints under two rows which part of the first one's time the second one
+    /// lacks, and how much that is.
+    pub fn checks(&mut self, whole: f64, inner: f64) {
+        let part = 100.0 * (whole - inner) / whole;
+        println!(
+            "{:<28} {:.3} of the port's time, {part:.1} %",
+            "  checks",
+            whole - inner
         );
     }
 

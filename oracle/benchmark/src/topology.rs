@@ -1,6 +1,6 @@
 //! Topologies: building one side or both, and checking both.
 
-mod matrices;
+pub mod matrices;
 mod port;
 
 use std::cell::RefCell;

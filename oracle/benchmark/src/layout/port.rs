@@ -4,12 +4,12 @@ use hybit_original::DofBlock;
 use hybit_port::*;
 
 pub struct Lists {
-    kinds: Vec<u8>,
-    ids: Vec<u64>,
-    fields: Vec<u32>,
-    components: Vec<u32>,
+    pub kinds: Vec<u8>,
+    pub ids: Vec<u64>,
+    pub fields: Vec<u32>,
+    pub components: Vec<u32>,
     /// Empty until the layout is built.
-    offsets: Vec<u64>,
+    pub offsets: Vec<u64>,
 }
 
 /// Lends the four block lists, then what else the function takes.

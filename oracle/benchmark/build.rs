@@ -1,0 +1,23 @@
+//! Links librepeated.a where it stands beside the port: growth by growth after
+//! one check. Without it the rows that need it are left out.
+
+use std::env;
+use std::path::Path;
+
+fn main() {
+    let package = env::var_os("CARGO_MANIFEST_DIR").expect("cargo names the package");
+    let libraries = env::var_os("RATTLE_LIBS").unwrap_or("target/staticlib".into());
+    let folder = Path::new(&package).join("../..").join(libraries);
+    let archive = folder.join("librepeated.a");
+    println!("cargo::rustc-check-cfg=cfg(repeated)");
+    println!("cargo::rerun-if-env-changed=RATTLE_LIBS");
+    println!("cargo::rerun-if-changed={}", archive.display());
+    if archive.exists() {
+        println!("cargo::rustc-cfg=repeated");
+        println!("cargo::rustc-link-search=native={}", folder.display());
+        println!("cargo::rustc-link-lib=static=repeated");
+        // It may hold the port's own functions once more, and then the first
+        // of each two alike is taken.
+        println!("cargo::rustc-link-arg-bins=-Wl,--allow-multiple-definition");
+    }
+}

@@ -1,0 +1,388 @@
+//! The port's calls on regions.
+
+use std::cell::RefCell;
+
+use hybit_original::{AbtmDualTopology, AbtmTopology, DofMask};
+use hybit_port::*;
+
+use crate::layout::port::Lists;
+use crate::measure::Sample;
+
+/// Can a growth be repeated after one check?
+pub const REPEATED: bool = cfg!(repeated);
+
+struct Side {
+    nrows: usize,
+    ncols: usize,
+    pointers: Vec<u32>,
+    words: Vec<u32>,
+    masks: Vec<u64>,
+    pairs: usize,
+}
+
+/// The lists of both sides, each with exactly its own words.
+pub struct Topology {
+    rows: Side,
+    columns: Side,
+}
+
+/// The three masks that a growth is lent.
+pub struct Lent {
+    region: Vec<u64>,
+    frontier: Vec<u64>,
+    scratch: Vec<u64>,
+}
+
+impl Lent {
+    pub fn new(nodes: usize) -> Self {
+        let mask = vec![0; nodes.div_ceil(64)];
+        Self {
+            region: mask.clone(),
+            frontier: mask.clone(),
+            scratch: mask,
+        }
+    }
+
+    /// Ends the program unless the Rust has grown the same.
+    pub fn demand(&self, region: &DofMask, frontier: &DofMask) {
+        assert!(self.region == region.words() && self.frontier == frontier.words());
+    }
+}
+
+impl Side {
+    /// The Rust keeps its lists to itself; they are the words of its rows.
+    fn of(side: &AbtmTopology) -> Self {
+        let mut lists = Self {
+            nrows: side.nrows(),
+            ncols: side.ncols(),
+            pointers: vec![0],
+            words: vec![],
+            masks: vec![],
+            pairs: side.structural_nnz(),
+        };
+        for row in (0..side.nrows()).map_while(|row| side.row(row).ok()) {
+            for word in row.words() {
+                lists.words.push(word.word_index());
+                lists.masks.push(word.mask());
+            }
+            lists.pointers.push(lists.masks.len() as u32);
+        }
+        lists
+    }
+}
+
+/// Lends a topology, then what else the function takes.
+macro_rules! on_topology {
+    ($function:ident, $topology:expr, $($more:expr),*) => {
+        // SAFETY: every pointer goes with the length of its own list, and the
+        // lists that are written are borrowed apart from the others.
+        unsafe {
+            $function(
+                $topology.rows.nrows,
+                $topology.rows.ncols,
+                $topology.rows.pointers.as_ptr(),
+                $topology.rows.pointers.len(),
+                $topology.rows.words.as_ptr(),
+                $topology.rows.words.len(),
+                $topology.rows.masks.as_ptr(),
+                $topology.rows.masks.len(),
+                $topology.rows.pairs,
+                $topology.columns.nrows,
+                $topology.columns.ncols,
+                $topology.columns.pointers.as_ptr(),
+                $topology.columns.pointers.len(),
+                $topology.columns.words.as_ptr(),
+                $topology.columns.words.len(),
+                $topology.columns.masks.as_ptr(),
+                $topology.columns.masks.len(),
+                $topology.columns.pairs,
+                $($more),*
+            )
+        }
+    };
+}
+
+/// The same with seeds, hops (and how often) and the three masks.
+macro_rules! grown {
+    ($function:ident, $topology:expr, $seeds:expr, [$($hops:expr),*], $lent:expr) => {
+        on_topology!(
+            $function,
+            $topology,
+            $seeds.len(),
+            $seeds.words().as_ptr(),
+            $seeds.words().len(),
+            $($hops,)*
+            $lent.region.as_mut_ptr(),
+            $lent.region.len(),
+            $lent.frontier.as_mut_ptr(),
+            $lent.frontier.len(),
+            $lent.scratch.as_mut_ptr(),
+            $lent.scratch.len()
+        )
+    };
+}
+
+/// The same with a layout before the seeds.
+macro_rules! grown_by_blocks {
+    ($function:ident, $topology:expr, $layout:expr, $seeds:expr, [$($hops:expr),*], $lent:expr) => {
+        on_topology!(
+            $function,
+            $topology,
+            $layout.kinds.as_ptr(),
+            $layout.kinds.len(),
+            $layout.ids.as_ptr(),
+            $layout.ids.len(),
+            $layout.fields.as_ptr(),
+            $layout.fields.len(),
+            $layout.components.as_ptr(),
+            $layout.components.len(),
+            $layout.offsets.as_ptr(),
+            $layout.offsets.len(),
+            $seeds.len(),
+            $seeds.words().as_ptr(),
+            $seeds.words().len(),
+            $($hops,)*
+            $lent.region.as_mut_ptr(),
+            $lent.region.len(),
+            $lent.frontier.as_mut_ptr(),
+            $lent.frontier.len(),
+            $lent.scratch.as_mut_ptr(),
+            $lent.scratch.len()
+        )
+    };
+}
+
+impl Topology {
+    pub fn of(rust: &AbtmDualTopology) -> Self {
+        Self {
+            rows: Side::of(rust.row_topology()),
+            columns: Side::of(rust.column_topology()),
+        }
+    }
+
+    pub fn grow(&self, seeds: &DofMask, hops: u64, lent: &mut Lent) -> GrowthAnswer {
+        grown!(hybit_grow_undirected_region, self, seeds, [hops], lent)
+    }
+
+    pub fn grow_field(
+        &self,
+        layout: &Lists,
+        seeds: &DofMask,
+        hops: u64,
+        lent: &mut Lent,
+    ) -> FieldGrowthAnswer {
+        grown_by_blocks!(
+            hybit_grow_field_aware_region,
+            self,
+            layout,
+            seeds,
+            [hops],
+            lent
+        )
+    }
+}
+
+#[cfg(repeated)]
+mod repeated {
+    //! Growth by growth after one check.
+
+    use super::*;
+    use crate::rest::without_rest;
+
+    macro_rules! on_two_sides {
+        ($($function:ident($($more:ident: $kind:ty),*);)*) => {
+            unsafe extern "C" {
+                $(fn $function(
+                    row_nrows: usize,
+                    row_ncols: usize,
+                    row_pointers: *const u32,
+                    row_pointers_len: usize,
+                    row_words: *const u32,
+                    row_words_len: usize,
+                    row_masks: *const u64,
+                    row_masks_len: usize,
+                    row_pairs: usize,
+                    column_nrows: usize,
+                    column_ncols: usize,
+                    column_pointers: *const u32,
+                    column_pointers_len: usize,
+                    column_words: *const u32,
+                    column_words_len: usize,
+                    column_masks: *const u64,
+                    column_masks_len: usize,
+                    column_pairs: usize,
+                    $($more: $kind),*
+                ) -> Answer;)*
+            }
+        };
+    }
+
+    on_two_sides! {
+        hybit_repeated_growth(
+            len: usize,
+            words: *const u64,
+            words_len: usize,
+            hops: u64,
+            times: u64,
+            region: *mut u64,
+            region_len: usize,
+            frontier: *mut u64,
+            frontier_len: usize,
+            scratch: *mut u64,
+            scratch_len: usize
+        );
+        hybit_repeated_field_growth(
+            kinds: *const u8,
+            kinds_len: usize,
+            ids: *const u64,
+            ids_len: usize,
+            fields: *const u32,
+            fields_len: usize,
+            components: *const u32,
+            components_len: usize,
+            offsets: *const u64,
+            offsets_len: usize,
+            len: usize,
+            words: *const u64,
+            words_len: usize,
+            hops: u64,
+            times: u64,
+            region: *mut u64,
+            region_len: usize,
+            frontier: *mut u64,
+            frontier_len: usize,
+            scratch: *mut u64,
+            scratch_len: usize
+        );
+    }
+
+    impl Topology {
+        pub fn inner_growth<'a>(
+            &'a self,
+            seeds: &'a DofMask,
+            hops: u64,
+            lent: &'a RefCell<Lent>,
+        ) -> Option<Sample<'a>> {
+            Some(without_rest(move |times| {
+                let lent = &mut *lent.borrow_mut();
+                let answer = grown!(hybit_repeated_growth, self, seeds, [hops, times], lent);
+                assert_eq!(answer.number, 0);
+                answer
+            }))
+        }
+
+        pub fn inner_field_growth<'a>(
+            &'a self,
+            layout: &'a Lists,
+            seeds: &'a DofMask,
+            hops: u64,
+            lent: &'a RefCell<Lent>,
+        ) -> Option<Sample<'a>> {
+            Some(without_rest(move |times| {
+                let lent = &mut *lent.borrow_mut();
+                let answer = grown_by_blocks!(
+                    hybit_repeated_field_growth,
+                    self,
+                    layout,
+                    seeds,
+                    [hops, times],
+                    lent
+                );
+                assert_eq!(answer.number, 0);
+                answer
+            }))
+        }
+    }
+}
+
+#[cfg(not(repeated))]
+impl Topology {
+    pub fn inner_growth<'a>(
+        &'a self,
+        _: &'a DofMask,
+        _: u64,
+        _: &'a RefCell<Lent>,
+    ) -> Option<Sample<'a>> {
+        None
+    }
+
+    pub fn inner_field_growth<'a>(
+        &'a self,
+        _: &'a Lists,
+        _: &'a DofMask,
+        _: u64,
+        _: &'a RefCell<Lent>,
+    ) -> Option<Sample<'a>> {
+        None
+    }
+}
+
+/// Lends the five lists of a layout, then what else the function takes.
+macro_rules! on_layout {
+    ($function:ident, $layout:expr, $($more:expr),*) => {
+        // SAFETY: as above.
+        unsafe {
+            $function(
+                $layout.kinds.as_ptr(),
+                $layout.kinds.len(),
+                $layout.ids.as_ptr(),
+                $layout.ids.len(),
+                $layout.fields.as_ptr(),
+                $layout.fields.len(),
+                $layout.components.as_ptr(),
+                $layout.components.len(),
+                $layout.offsets.as_ptr(),
+                $layout.offsets.len(),
+                $($more),*
+            )
+        }
+    };
+}
+
+pub fn close(layout: &Lists, selected: &DofMask, out: &mut [u64]) -> Answer {
+    on_layout!(
+        hybit_close_to_field_blocks,
+        layout,
+        selected.len(),
+        selected.words().as_ptr(),
+        selected.words().len(),
+        out.as_mut_ptr(),
+        out.len()
+    )
+}
+
+pub fn owners(layout: &Lists, dof_owners: &[u32], ranks: u32, out: &mut [u32]) -> Answer {
+    on_layout!(
+        hybit_field_block_owners,
+        layout,
+        dof_owners.as_ptr(),
+        dof_owners.len(),
+        ranks,
+        out.as_mut_ptr(),
+        out.len()
+    )
+}
+
+pub fn multiplicity(
+    nodes: usize,
+    regions: usize,
+    words: &[u64],
+    counts: &mut [u32],
+) -> MultiplicityAnswer {
+    // SAFETY: as above.
+    unsafe {
+        hybit_region_multiplicity(
+            nodes,
+            regions,
+            words.as_ptr(),
+            words.len(),
+            counts.as_mut_ptr(),
+            counts.len(),
+        )
+    }
+}
+
+pub fn weight(nodes: usize, regions: usize, words: &[u64], region: u64, node: u64) -> Answer {
+    // SAFETY: as above.
+    unsafe { hybit_weight(nodes, regions, words.as_ptr(), words.len(), region, node) }
+}
