@@ -63,6 +63,15 @@ pub fn run() {
         "1",
         "closure",
     );
+    line(
+        "3f",
+        "region_multiplicity(0, 65,537 masks of 0 nodes): region_count",
+        "1",
+        || {
+            let masks = vec![original::DofMask::new(0); 65_537];
+            original::region_multiplicity(0, &masks).map(|found| found.stats().region_count)
+        },
+    );
 }
 
 /// What `line_of_child` runs.
