@@ -35,7 +35,7 @@ fn right_ones() -> Vec<(Topology, Layout)> {
 fn topologies(run: &mut dyn FnMut(Call)) {
     for (right, layout) in right_ones() {
         let seeds = mask_of(right.rows.nrows, &[0]);
-        let mut all = faults::disagreeing(&right);
+        let mut all = [faults::disagreeing(&right), faults::hidden(&right)].concat();
         for rows in faults::broken(&right.rows) {
             let columns = right.columns.clone();
             all.push(Topology { rows, columns });

@@ -242,6 +242,63 @@ pub fn disagreeing(right: &Topology) -> Vec<Topology> {
     all
 }
 
+/// The right pairs in both sides, in one of them stored as no side may: with an
+/// empty word more, with two words of a row exchanged, or with a word cut in
+/// two. No other fault hides that of the words.
+pub fn hidden(right: &Topology) -> Vec<Topology> {
+    let mut all = vec![];
+    for rows in stored_otherwise(&right.rows) {
+        let columns = right.columns.clone();
+        all.push(Topology { rows, columns });
+    }
+    for columns in stored_otherwise(&right.columns) {
+        let rows = right.rows.clone();
+        all.push(Topology { rows, columns });
+    }
+    all
+}
+
+fn stored_otherwise(right: &Side) -> Vec<Side> {
+    let mut all = vec![];
+    let past = right.ncols.div_ceil(64) as u32;
+    for row in 0..right.nrows {
+        let [start, end] = [row, row + 1].map(|at| right.row_word_ptr[at] as usize);
+        for index in 0..=past {
+            let own = right.word_indices[start..end].iter();
+            let place = start + own.take_while(|&&own| own < index).count();
+            let mut more = right.clone();
+            more.insert_word(row, place, index, 0);
+            all.push(more);
+        }
+        for place in start..end {
+            let mask = right.masks[place];
+            let mut cut = right.clone();
+            cut.masks[place] = mask & (mask - 1);
+            let index = right.word_indices[place];
+            cut.insert_word(row, place, index, mask & mask.wrapping_neg());
+            all.push(cut);
+            if place > start {
+                let mut exchanged = right.clone();
+                exchanged.word_indices.swap(place - 1, place);
+                exchanged.masks.swap(place - 1, place);
+                all.push(exchanged);
+            }
+        }
+    }
+    all
+}
+
+impl Side {
+    /// A word more in a row; the pair count is left.
+    fn insert_word(&mut self, row: usize, place: usize, index: u32, mask: u64) {
+        self.word_indices.insert(place, index);
+        self.masks.insert(place, mask);
+        for pointer in &mut self.row_word_ptr[row + 1..] {
+            *pointer += 1;
+        }
+    }
+}
+
 /// One of the pairs missing, once more elsewhere, or elsewhere alone, in one of
 /// the sides.
 pub fn with_pair_moved(right: &Topology, pairs: &[Pair], place: usize) -> Vec<Topology> {

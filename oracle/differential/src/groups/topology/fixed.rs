@@ -165,7 +165,8 @@ fn faulty_topologies(run: &mut dyn FnMut(Call)) {
             let rows = right.rows.clone();
             questions::of_topology(&Topology { rows, columns }, run);
         }
-        for topology in faults::disagreeing(&right) {
+        let others = [faults::disagreeing(&right), faults::hidden(&right)];
+        for topology in others.concat() {
             questions::of_topology(&topology, run);
         }
     }
