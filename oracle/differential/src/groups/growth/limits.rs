@@ -3,13 +3,14 @@
 use super::cases::{blocks_of, close, grow, grow_field, grow_in, mask_of, multiplicity, owners};
 use super::fields::cut;
 use super::{Call, Regions, rooms};
-use crate::expected::{REGION_LIMIT, SIDE_LIMIT};
+use crate::expected::{ENTRY_LIMIT, REGION_LIMIT, SIDE_LIMIT};
 use crate::groups::mask::{Mask, of_index, words_needed};
 use crate::groups::topology::{Pair, Topology, of_pairs};
 
 pub fn run(run: &mut dyn FnMut(Call)) {
     largest(run);
     past(run);
+    words(run);
     far_masks(run);
     layouts(run);
     most_regions(run);
@@ -53,6 +54,26 @@ fn past(run: &mut dyn FnMut(Call)) {
             run(grow(&wrong, &mask_of(1, &[0]), 1));
             run(grow_field(&wrong, &layout, &mask_of(1, &[0]), 1));
         }
+    }
+}
+
+/// One word more than there may be in one of the lists, which is no right side
+/// either.
+fn words(run: &mut dyn FnMut(Call)) {
+    let right = of_pairs(1, 1, &[(0, 0)]);
+    let seeds = mask_of(1, &[0]);
+    for columns in [false, true] {
+        let mut masks = right.clone();
+        let mut indices = right.clone();
+        let [side, other] = [&mut masks, &mut indices].map(|topology| match columns {
+            true => &mut topology.columns,
+            false => &mut topology.rows,
+        });
+        side.masks.resize(ENTRY_LIMIT + 1, 0);
+        other.word_indices.resize(ENTRY_LIMIT + 1, 0);
+        run(grow(&masks, &seeds, 1));
+        run(grow_field(&indices, &blocks_of(&[1]), &seeds, 1));
+        run(grow(&indices, &seeds, 1));
     }
 }
 

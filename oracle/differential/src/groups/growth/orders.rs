@@ -79,8 +79,8 @@ fn lent(chosen: Chosen) -> Lent {
 }
 
 /// A list of another length, an unknown kind, no components, a block twice, a
-/// size over the limit, offsets that are not the totals.
-const OF_LAYOUT: u32 = 6;
+/// size over the limit, offsets that are not the totals, or one too many.
+const OF_LAYOUT: u32 = 7;
 
 fn layout(chosen: Chosen, sizes: &[u32]) -> Layout {
     let mut layout = blocks_of(sizes);
@@ -100,6 +100,9 @@ fn layout(chosen: Chosen, sizes: &[u32]) -> Layout {
     }
     if chosen.has(5) {
         layout.offsets[1] += 1;
+    }
+    if chosen.has(6) {
+        layout.offsets.push(0);
     }
     if chosen.has(0) {
         layout.blocks.fields.pop();

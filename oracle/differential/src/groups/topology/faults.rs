@@ -244,7 +244,7 @@ pub fn disagreeing(right: &Topology) -> Vec<Topology> {
 
 /// The right pairs in both sides, in one of them stored as no side may: with an
 /// empty word more, with two words of a row exchanged, or with a word cut in
-/// two. No other fault hides that of the words.
+/// two; or the same wrong pair count in both. No other fault hides these.
 pub fn hidden(right: &Topology) -> Vec<Topology> {
     let mut all = vec![];
     for rows in stored_otherwise(&right.rows) {
@@ -254,6 +254,15 @@ pub fn hidden(right: &Topology) -> Vec<Topology> {
     for columns in stored_otherwise(&right.columns) {
         let rows = right.rows.clone();
         all.push(Topology { rows, columns });
+    }
+    let pairs = right.rows.structural_nnz;
+    for count in [0, pairs.saturating_sub(1), pairs + 1, ENTRY_LIMIT] {
+        if count != pairs {
+            let mut wrong = right.clone();
+            wrong.rows.structural_nnz = count;
+            wrong.columns.structural_nnz = count;
+            all.push(wrong);
+        }
     }
     all
 }
