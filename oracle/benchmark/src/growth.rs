@@ -12,7 +12,7 @@ use hybit_original::{
 
 use crate::layout::blocks::entity_major;
 use crate::layout::port::Lists;
-use crate::measure::{Table, single};
+use crate::measure::{Table, repeated, single};
 use crate::topology::matrices::{banded, scattered};
 use port::{Lent, Topology};
 
@@ -224,7 +224,7 @@ fn multiplicity(table: &mut Table, input: &str, one_in: usize) {
     table.row(
         "weight",
         input,
-        single(|| (), |()| port::weight(MOST_ROWS, 64, &words, 3, 3)),
+        repeated(|number| port::weight(MOST_ROWS, 64, &words, 3, number as u64 % 1_000)),
         None,
     );
 }

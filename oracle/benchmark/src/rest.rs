@@ -13,18 +13,30 @@ const MOST_PIECES: u64 = 1 << 18;
 /// divided by N. N is chosen so that the pieces take as long as the rest, which
 /// would drown them otherwise.
 pub fn without_rest<'a, O>(mut work: impl FnMut(u64) -> O + 'a) -> Sample<'a> {
-    let mut pieces = 1;
+    let mut pieces = None;
     Box::new(move || {
-        loop {
-            let one = timed(|| work(1));
-            let many = timed(|| work(1 + pieces));
-            let gained = many.saturating_sub(one);
-            if gained >= one.max(SAMPLE_TIME) || pieces >= MOST_PIECES {
-                return microseconds(gained) / pieces as f64;
-            }
-            pieces *= 8;
-        }
+        let one = timed(|| work(1));
+        let pieces = *pieces.get_or_insert_with(|| enough(&mut work, one));
+        let gained = timed(|| work(1 + pieces)).saturating_sub(one);
+        microseconds(gained) / pieces as f64
     })
+}
+
+/// So many pieces take as long as the rest.
+fn enough<O>(work: &mut impl FnMut(u64) -> O, rest: Duration) -> u64 {
+    let mut pieces = 1;
+    while pieces < MOST_PIECES {
+        let gained = timed(|| work(1 + pieces)).saturating_sub(rest);
+        if gained >= rest.max(SAMPLE_TIME) {
+            break;
+        }
+        if gained > rest / 16 {
+            let times = 1.25 * rest.as_secs_f64() / gained.as_secs_f64();
+            return (pieces as f64 * times).ceil() as u64;
+        }
+        pieces *= 16;
+    }
+    pieces
 }
 
 fn timed<O>(work: impl FnOnce() -> O) -> Duration {
