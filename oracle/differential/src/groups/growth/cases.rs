@@ -314,12 +314,14 @@ pub fn wrong_masks(len: usize) -> Vec<Mask> {
         stray.len = len;
         all.push(stray);
     }
+    // Without nodes some of these are the right mask.
     all.retain(|mask| mask.len != len || mask.words.len() != words || words > 0);
     all
 }
 
-/// The second of two blocks in every faulty way, lists of other lengths, and
-/// offsets that are not the totals.
+/// The first and the last block in every faulty way, lists of other lengths,
+/// and offsets that are not the totals; some of the changes make another right
+/// layout instead.
 pub fn wrong_layouts(right: &Layout) -> Vec<Layout> {
     let mut all = vec![];
     let mut add = |change: &dyn Fn(&mut Layout)| {
