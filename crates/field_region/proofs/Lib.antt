@@ -2,3 +2,4 @@ pub mod Closing
 pub mod Owning
 pub mod Growing
 pub mod Accepted
+pub mod Bounds

@@ -282,6 +282,15 @@ module _ (B : ℕ) (link : ℕ → ℕ → Bool) (seeded : ℕ → Bool) where
   pub any-at-iff : (k : ℕ) → T (A 0) → T (A k) ↔ (k ≤ farthest B link seeded)
   any-at-iff k t = (λ a. far-largest B k (omega (arith, any-at-lt k a)) a, λ h. any-at-below k (Far B) h (far-occurs B t))
 
+  -- however large h is, no more hops are completed than there are blocks
+  pub completed-le : (h : ℕ) → completed B link seeded h ≤ B
+  unfolding completed
+  completed-le h = at (A 0) refl
+    where
+      at : (v : Bool) → A 0 ≡ v → cond v (min h (Far B + 1)) 0 ≤ B
+      at true e = omega (arith, any-at-lt (Far B) (far-occurs B (subst (λ (v : Bool). T v) (sym e) tt)))
+      at false e = omega arith
+
   -- the hop loop: k turns made, none on an empty frontier, and it ended since k = h or the frontier is empty.
   -- Then k is hops_completed, and what it holds at k is what is asked for at h
   pub record Ended (h k : ℕ) : Type 0 where
