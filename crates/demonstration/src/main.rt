@@ -1,4 +1,4 @@
-// Prints document 01's own examples of words, matrices, masks and layouts, as the port answers them.
+// Prints document 01's own examples of words, matrices, masks, layouts, topologies and regions, as the port answers them.
 use hybit_matrix::Answer;
 use libc::STDOUT_FILENO;
 
@@ -169,10 +169,119 @@ fn refused_layouts() {
     );
 }
 
+// A node of a mask of three, if it is in it.
+fn member(words: &[u64], node: u64) {
+    if hybit_matrix::hybit_mask_contains(3, words, node).value == 1 {
+        io::write_all(STDOUT_FILENO, b" ");
+        io::print_decimal(STDOUT_FILENO, node);
+    }
+}
+
+fn members(what: &[u8], words: &[u64]) {
+    io::write_all(STDOUT_FILENO, what);
+    io::write_all(STDOUT_FILENO, b":");
+    member(words, 0);
+    member(words, 1);
+    member(words, 2);
+    io::write_all(STDOUT_FILENO, b"\n");
+}
+
+fn figure(what: &[u8], value: u64) {
+    io::write_all(STDOUT_FILENO, what);
+    io::write_all(STDOUT_FILENO, b": ");
+    io::print_decimal(STDOUT_FILENO, value);
+    io::write_all(STDOUT_FILENO, b"\n");
+}
+
+// Entries (0,1), (1,2), side 3: the topology is handed in by its lists.
+fn growth(what: &[u8], seeds: &[u64], hops: u64) {
+    let mut region = [0u64; 1];
+    let mut frontier = [0u64; 1];
+    let mut scratch = [0u64; 1];
+    let a = hybit_matrix::regions::hybit_grow_undirected_region(
+        3,
+        3,
+        &[0, 1, 2, 2],
+        &[0, 0],
+        &[2, 4],
+        2,
+        3,
+        3,
+        &[0, 0, 1, 2],
+        &[0, 0],
+        &[1, 2],
+        2,
+        3,
+        seeds,
+        hops,
+        &mut region,
+        &mut frontier,
+        &mut scratch,
+    );
+    members(what, &region);
+    members(b"its frontier", &frontier);
+    figure(b"hops completed", a.hops_completed);
+}
+
+// The same entries, the unknowns in blocks of 2 and 1.
+fn field_growth(what: &[u8], seeds: &[u64], hops: u64) {
+    let mut region = [0u64; 1];
+    let mut frontier = [0u64; 1];
+    let mut scratch = [0u64; 1];
+    let a = hybit_matrix::regions::hybit_grow_field_aware_region(
+        3,
+        3,
+        &[0, 1, 2, 2],
+        &[0, 0],
+        &[2, 4],
+        2,
+        3,
+        3,
+        &[0, 0, 1, 2],
+        &[0, 0],
+        &[1, 2],
+        2,
+        &[1, 1],
+        &[0, 1],
+        &[0, 0],
+        &[2, 1],
+        &[0, 2, 3],
+        3,
+        seeds,
+        hops,
+        &mut region,
+        &mut frontier,
+        &mut scratch,
+    );
+    members(what, &region);
+    figure(b"its blocks", a.region_blocks);
+}
+
+fn regions() {
+    growth(b"region of seed 0, 2 hops", &[1], 2);
+    growth(b"region of seed 0, 9 hops", &[1], 9);
+    growth(b"region of seed 2, 1 hop", &[4], 1);
+    field_growth(b"blocks of 2 and 1, seed 1, 0 hops", &[2], 0);
+    field_growth(b"blocks of 2 and 1, seed 1, 1 hop", &[2], 1);
+    let mut counts = [0u32; 3];
+    let m = hybit_matrix::regions::hybit_region_multiplicity(3, 3, &[3, 6, 2], &mut counts);
+    figure(
+        b"regions {0,1}, {1,2}, {1}, their total",
+        m.total_memberships,
+    );
+    figure(b"their overlap nodes", m.overlap_nodes);
+    figure(b"their pairs", m.pair_overlap_memberships);
+    show(
+        b"weight of the first at node 1",
+        hybit_matrix::regions::hybit_weight(3, 3, &[3, 6, 2], 0, 1),
+    );
+}
+
 fn main() {
     words();
     matrices();
     masks();
     layouts();
     refused_layouts();
+    regions();
 }

@@ -3,3 +3,4 @@ pub mod Owning
 pub mod Growing
 pub mod Accepted
 pub mod Bounds
+pub mod Worked

@@ -1,3 +1,4 @@
 pub mod Distances
 pub mod Networks
 pub mod Turns
+pub mod Worked
