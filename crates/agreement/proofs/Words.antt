@@ -1,7 +1,7 @@
 -- The columns of a row, word by word and bit by bit: whether all of them are in a set. Assumes nothing.
 use mathlib.Core.Path.{_≡_, refl, sym, ap, _∙_, subst}
 use mathlib.Core.Logic.{_≢_}
-use mathlib.Core.Bool.{Bool, true, false, not, _&&_, _||_}
+use mathlib.Core.Bool.{Bool, true, false, not, _&&_}
 use mathlib.Core.List.{List}
 use Prim.Native.Nat.{ℕ, _+_, _-_, _*_, _/_, _%_, _^_, _≤_, _<_}
 use native.Mathlib.Omega.{arith}
@@ -14,13 +14,13 @@ use Rattle.base.specs.Lists.{every}
 use Rattle.base.specs.Sets.{membersFrom}
 use Rattle.base.proofs.Bools.{T-true, T-false, T-of, and-left, and-right, both-ways}
 use Rattle.base.proofs.Lists.{every-at}
-use Rattle.base.proofs.Sets.{every-e, every-members, members-find}
+use Rattle.base.proofs.Sets.{every-members, members-find}
 use Rattle.word.specs.Bits.{bitAt, setBits}
 use Rattle.word.proofs.Bits.{lowest, no-bits}
 use Rattle.word.proofs.Words.{bit-word}
 use Rattle.side.specs.Check.{wordInside}
 use Rattle.side.specs.Row.{Row}
-use Rattle.side.proofs.Words.{inside-bit}
+use Rattle.side.proofs.Words.{bit-in}
 use Rattle.agreement.specs.Agreement.{within}
 use Rattle.agreement.proofs.Turned.{within-i, within-e}
 
@@ -39,11 +39,10 @@ module _ (ncols w : ℕ) (q : ℕ → Bool) where
     pub fits : left < 2 ^ 64
 
   pub walk-start : (m : ℕ) → wordInside ncols w m ≡ true → m < 2 ^ 64 → Walk m m
-  unfolding wordInside
   walk-start m e h = record { same = refl; inside = every-members (λ b. ltb (64 * w + b) ncols) (bitAt m) 0 64 (λ b l u t. in-cols b (omega arith) t); fits = h }
     where
       in-cols : (b : ℕ) → b < 64 → T (bitAt m b) → ltb (64 * w + b) ncols ≡ true
-      in-cols b l t = lt-ltb (64 * w + b) ncols (inside-bit ncols w m b (every-e 64 (λ b. ltb (64 * w + b) ncols || not (bitAt m b)) (T-of _ e) b l) t)
+      in-cols b l t = lt-ltb (64 * w + b) ncols (bit-in ncols w m e b l t)
 
   module _ (m left : ℕ) (k : Walk m left) where
     -- none is left

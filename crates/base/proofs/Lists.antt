@@ -1,18 +1,18 @@
 -- Laws of lists: scans from the front, membership, lists made by a rule, and a list written over the front of a lent one. Assumes nothing.
 use mathlib.Core.Path.{_≡_, refl, sym, ap, ap₂, _∙_, subst}
-use mathlib.Core.Bool.{Bool, true, false, _&&_, _||_}
+use mathlib.Core.Bool.{Bool, true, false, _&&_, _||_, or-assoc, or-comm}
 use mathlib.Core.List.{List, [], _∷_, _++_, map, append-nil, append-assoc}
 use mathlib.Core.Logic.{_⊎_, inl, inr}
 use Prim.Native.Nat.{ℕ, zero, suc, _+_, _-_, _≤_, _<_}
-use native.Mathlib.Nat.{zero-add, add-zero, le-refl, le-of-suc-le-suc, not-suc-le-zero, le-of-lt}
+use native.Mathlib.Nat.{zero-add, add-zero, le-refl, le-of-suc-le-suc, not-suc-le-zero, le-of-lt, sub-zero, zero-sub, suc-sub-suc}
 use native.Mathlib.Numerals.{add-one}
 use native.Mathlib.Omega.{arith}
 use borrow.Author.Tests.{eq-eqb, eqb-true}
 use lib.Dec.{T, eqb, eqb→eq}
 use lib.ListN.{length, getD, set, take, drop, replicate, drop-of-length-le, length-append, length-take, length-drop, length-replicate, take-append-drop, replicate-append-replicate}
-use lib.Seq.{slice, drop-cons, take-suc, take-take, length-take-le, set-at, append-snoc, take-all, drop-length, getD-drop, getD-take, length-slice, slice-empty, drop-append-le, ext-getD}
+use lib.Seq.{slice, drop-cons, take-suc, take-take, length-take-le, set-at, append-snoc, take-all, drop-length, getD-drop, getD-take, length-slice, slice-empty, drop-append-le, ext-getD, take-append-seam, take-nil}
 use Rattle.base.specs.Lists.{every, pairwise, isIn, sameList, listFrom, written, over, overZeros, zeroed}
-use Rattle.base.proofs.Bools.{and-left, and-right, or-l, or-r, or-e, or-false, T-true, T-false, T-of, both-ways}
+use Rattle.base.proofs.Bools.{and-left, and-right, or-l, or-r, or-e, or-false, T-true, T-false, T-of, both-ways, lt-or-le}
 
 -- ---- a loop that tests a list from the front: the test of the whole list is the test of what is left of it
 
@@ -79,16 +79,21 @@ module _ (ptr : List ℕ) (n : ℕ) (rises : (r : ℕ) → r < n → getD ptr r 
   pub rise-to : (r k : ℕ) → r ≤ k → k ≤ n → getD ptr r 0 ≤ getD ptr k 0
   rise-to r k h u = let e : r + (k - r) ≡ k = omega arith in subst (λ (x : ℕ). getD ptr r 0 ≤ getD ptr x 0) e (rise-by r (k - r) (omega arith))
 
+-- running ends: each number below the last of them stands between two
+pub step-of : (ends : ℕ → ℕ) (n k : ℕ) → ends 0 ≡ 0 → k < ends n → (r : ℕ) × (r < n) × (ends r ≤ k) × (k < ends (r + 1))
+step-of ends zero k first h = absurd (omega arith)
+step-of ends (suc n) k first h = go (lt-or-le k (ends n)) (step-of ends n k first)
+  where
+    go : (k < ends n) ⊎ (ends n ≤ k) → (k < ends n → (r : ℕ) × (r < n) × (ends r ≤ k) × (k < ends (r + 1))) → (r : ℕ) × (r < suc n) × (ends r ≤ k) × (k < ends (r + 1))
+    go (inl l) ih = let q : (r : ℕ) × (r < n) × (ends r ≤ k) × (k < ends (r + 1)) = ih l in (q .0, omega arith, q .2, q .3)
+    go (inr l) ih = (n, omega arith, l, subst (λ (x : ℕ). k < ends x) (sym (add-one n)) h)
+
 -- ---- membership
 
 pub in-snoc : (c : ℕ) (l : List ℕ) (x : ℕ) → isIn c (l ++ (x ∷ [])) ≡ (isIn c l || eqb x c)
 unfolding isIn
 in-snoc c [] x = or-false (eqb x c)
-in-snoc c (y ∷ ys) x = ap (λ (t : Bool). eqb y c || t) (in-snoc c ys x) ∙ assoc (eqb y c) (isIn c ys) (eqb x c)
-  where
-    assoc : (a b d : Bool) → (a || (b || d)) ≡ ((a || b) || d)
-    assoc true b d = refl
-    assoc false b d = refl
+in-snoc c (y ∷ ys) x = ap (λ (t : Bool). eqb y c || t) (in-snoc c ys x) ∙ sym (or-assoc (eqb y c) (isIn c ys) (eqb x c))
 
 -- an element of a list is in it, and what is in it is an element
 pub in-at : (c : ℕ) (l : List ℕ) (i : ℕ) → i < length l → getD l i 0 ≡ c → T (isIn c l)
@@ -142,6 +147,13 @@ slice-snoc f t l h u =
     ap (λ (n : ℕ). drop f (take n l)) (add-one t) ∙ ap (drop f) (take-suc l t 0 u)
     ∙ drop-append-le f (take t l) (getD l t 0 ∷ []) (omega (arith, length-take-le t l (omega arith)))
 
+-- as the code takes it
+pub part-slice : {A : Type 0} (f t : ℕ) (l : List A) → take (t - f) (drop f l) ≡ slice f t l
+part-slice zero t l = ap (λ (n : ℕ). take n l) (sub-zero t)
+part-slice (suc f) zero l = ap (λ (n : ℕ). take n (drop (suc f) l)) (zero-sub (suc f))
+part-slice (suc f) (suc t) [] = take-nil (suc t - suc f)
+part-slice (suc f) (suc t) (x ∷ l) = ap (λ (n : ℕ). take n (drop f l)) (suc-sub-suc t f) ∙ part-slice f t l
+
 pub getD-slice : (f t : ℕ) (l : List ℕ) (i : ℕ) → f + i < t → getD (slice f t l) i 0 ≡ getD l (f + i) 0
 getD-slice f t l i h = getD-drop f (take t l) i 0 ∙ getD-take t l (f + i) 0 h
 
@@ -168,12 +180,7 @@ unfolding isIn
 in-ahead c f t l h u =
     ap (isIn c) (drop-cons (take t l) f 0 (omega (arith, length-take-le t l u)))
     ∙ ap₂ (λ (x n : ℕ). eqb x c || isIn c (drop n (take t l))) (getD-take t l f 0 h) (sym (add-one f))
-    ∙ swap (eqb (getD l f 0) c) (isIn c (slice (f + 1) t l))
-  where
-    swap : (a b : Bool) → (a || b) ≡ (b || a)
-    swap true true = refl
-    swap true false = refl
-    swap false b = sym (or-false b)
+    ∙ or-comm (eqb (getD l f 0) c) (isIn c (slice (f + 1) t l))
 
 -- lists that agree up to a place, or from it on
 pub take-same : (l l′ : List ℕ) (n : ℕ) → n ≤ length l → n ≤ length l′ → ((k : ℕ) → k < n → getD l′ k 0 ≡ getD l k 0) → take n l′ ≡ take n l
@@ -236,6 +243,24 @@ module _ {A : Type 0} (X o : List A) where
 
   pub put-length : (i : ℕ) → i ≤ length X → i ≤ length o → length (written i X o) ≡ length o
   put-length i h k = simp (length-append, length-take, length-drop) (omega arith)
+
+-- ---- a lent list of which a part was written: `&mut lent[..need]`
+
+module _ {A : Type 0} (part answer lent : List A) (need : ℕ) (e : part ≡ answer) (l : need ≡ length answer) where
+  pub part-left : part ++ drop need lent ≡ over answer lent
+  part-left = ap₂ (λ (p : List A) (k : ℕ). p ++ drop k lent) e l
+
+  pub part-room : need ≤ length (part ++ drop need lent)
+  part-room = omega (arith, length-append part (drop need lent), ap length e)
+
+  pub part-take : take need (part ++ drop need lent) ≡ answer
+  part-take = ap (λ (k : ℕ). take k (part ++ drop need lent)) (l ∙ ap length (sym e)) ∙ take-append-seam part (drop need lent) ∙ e
+
+  pub part-needed : need ≡ length (take need (part ++ drop need lent))
+  part-needed = l ∙ ap length (sym part-take)
+
+  pub part-long : need ≤ length lent → length (part ++ drop need lent) ≡ length lent
+  part-long h = omega (arith, length-append part (drop need lent), length-drop need lent, ap length e)
 
 -- ---- a loop that writes zeros from lo on
 

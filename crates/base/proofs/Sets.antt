@@ -1,7 +1,7 @@
 -- Laws of sets of numbers below a bound: any, every, sums and counts, members in rising order. Assumes nothing.
 use mathlib.Core.Path.{_≡_, refl, sym, ap, ap₂, _∙_, subst}
 use mathlib.Core.Logic.{_⊎_, inl, inr}
-use mathlib.Core.Bool.{Bool, true, false, cond, _&&_, _||_}
+use mathlib.Core.Bool.{Bool, true, false, cond, _&&_, _||_, or-assoc}
 use mathlib.Core.List.{List, [], _∷_, _++_, map, append-nil}
 use Prim.Native.Nat.{ℕ, zero, suc, _+_, _-_, _*_, _≤_, _<_, max}
 use native.Mathlib.Omega.{arith}
@@ -13,7 +13,7 @@ use lib.ListN.{length, getD}
 use lib.Seq.{getD-append-seam}
 use Rattle.base.specs.Lists.{every}
 use Rattle.base.specs.Sets.{anyBelow, firstBelow, everyBelow, sumBelow, largestBelow, one-if, countBelow, sumOver, keep, membersFrom, membersBelow}
-use Rattle.base.proofs.Bools.{bool-ext, decide, lt-or-le, and-l, and-r, and-i, or-l, or-r, or-e, T-true, T-false, T-of, not-T-of}
+use Rattle.base.proofs.Bools.{bool-ext, decide, lt-or-le, and-l, and-r, and-i, or-l, or-r, or-e, T-true, T-false, T-of, not-T-of, or-false}
 
 -- ---- any
 
@@ -58,6 +58,25 @@ any-past len n p h none =
 pub any-next : (n : ℕ) (p : ℕ → Bool) → anyBelow (n + 1) p ≡ (anyBelow n p || p n)
 unfolding anyBelow
 any-next n p = ap (λ (k : ℕ). anyBelow k p) (add-one n)
+
+-- a range in two parts
+pub any-append : (a b : ℕ) (p : ℕ → Bool) → anyBelow (a + b) p ≡ (anyBelow a p || anyBelow b (λ j. p (a + j)))
+unfolding anyBelow
+any-append a zero p = ap (λ (x : ℕ). anyBelow x p) (add-zero a) ∙ sym (or-false (anyBelow a p))
+any-append a (suc b) p =
+    ap (λ (x : ℕ). anyBelow x p) (add-suc a b) ∙ ap (λ (t : Bool). t || p (a + b)) (any-append a b p)
+    ∙ or-assoc (anyBelow a p) (anyBelow b (λ j. p (a + j))) (p (a + b))
+
+pub any-or : (n : ℕ) (p q : ℕ → Bool) → anyBelow n (λ i. p i || q i) ≡ (anyBelow n p || anyBelow n q)
+unfolding anyBelow
+any-or zero p q = refl
+any-or (suc n) p q = ap (λ (t : Bool). t || (p n || q n)) (any-or n p q) ∙ swap (anyBelow n p) (anyBelow n q) (p n) (q n)
+  where
+    swap : (a b x y : Bool) → ((a || b) || (x || y)) ≡ ((a || x) || (b || y))
+    swap true b x y = refl
+    swap false true true y = refl
+    swap false true false y = refl
+    swap false false x y = refl
 
 -- nothing below n passes: what a scan that found nothing says
 abbrev pub None : (ℕ → Bool) → ℕ → Type 0
@@ -147,6 +166,17 @@ pub every-cong : (n : ℕ) (p q : ℕ → Bool) → ((i : ℕ) → i < n → p i
 unfolding everyBelow
 every-cong zero p q e = refl
 every-cong (suc n) p q e = ap₂ _&&_ (every-cong n p q (λ i h. e i (omega arith))) (e n (omega arith))
+
+-- the numbers of a range that starts further on
+module _ (p : ℕ → Bool) (from to : ℕ) where
+  pub every-from : ((i : ℕ) → from ≤ i → i < to → T (p i)) → everyBelow (to - from) (λ j. p (from + j)) ≡ true
+  every-from all = T-true (everyBelow (to - from) (λ j. p (from + j))) (every-i (to - from) (λ j. p (from + j)) (λ j l. all (from + j) (omega arith) (omega arith)))
+
+  pub not-every : (k : ℕ) → from ≤ k → k < to → (T (p k) → ⊥) → everyBelow (to - from) (λ j. p (from + j)) ≡ false
+  not-every k h l n =
+      let s : from + (k - from) ≡ k = omega arith in
+      T-false (everyBelow (to - from) (λ j. p (from + j)))
+      (λ t. n (subst (λ (x : ℕ). T (p x)) s (every-e (to - from) (λ j. p (from + j)) t (k - from) (omega arith))))
 
 -- ---- sums
 
@@ -238,6 +268,9 @@ sum-split n p q r f e d =
     one i true false x = omega arith
     one i false b x = omega arith
 
+pub over-cong : (n : ℕ) (p q : ℕ → Bool) (f : ℕ → ℕ) → ((i : ℕ) → i < n → p i ≡ q i) → sumOver n p f ≡ sumOver n q f
+over-cong n p q f e = sum-cong n (λ i. cond (p i) (f i) 0) (λ i. cond (q i) (f i) 0) (λ i h. ap (λ (v : Bool). cond v (f i) 0) (e i h))
+
 -- a sum over members is at most the sum over all
 pub over-le : (n : ℕ) (p : ℕ → Bool) (f : ℕ → ℕ) → sumOver n p f ≤ sumBelow n f
 over-le n p f = sum-le n (λ i. cond (p i) (f i) 0) f (λ i h. one (p i) (f i))
@@ -265,6 +298,11 @@ pub largest-next : (n : ℕ) (f : ℕ → ℕ) → largestBelow (n + 1) f ≡ ma
 unfolding largestBelow
 largest-next n f = ap (λ (k : ℕ). largestBelow k f) (add-one n)
 
+pub largest-cong : (n : ℕ) (f g : ℕ → ℕ) → ((i : ℕ) → i < n → f i ≡ g i) → largestBelow n f ≡ largestBelow n g
+unfolding largestBelow
+largest-cong zero f g e = refl
+largest-cong (suc n) f g e = ap₂ max (largest-cong n f g (λ i h. e i (omega arith))) (e n (omega arith))
+
 pub largest-le : (n m : ℕ) (f : ℕ → ℕ) → ((i : ℕ) → i < n → f i ≤ m) → largestBelow n f ≤ m
 unfolding largestBelow
 largest-le zero m f h = omega arith
@@ -289,6 +327,14 @@ one-if-lt false false f t = absurd t
 pub count-cong : (n : ℕ) (p q : ℕ → Bool) → ((i : ℕ) → i < n → p i ≡ q i) → countBelow n p ≡ countBelow n q
 count-cong n p q e = sum-cong n (λ i. one-if (p i)) (λ i. one-if (q i)) (λ i h. ap one-if (e i h))
 
+-- a count is a sum of ones
+pub count-ones : (n : ℕ) (p : ℕ → Bool) → countBelow n p ≡ sumOver n p (λ i. 1)
+count-ones n p = sum-cong n (λ i. one-if (p i)) (λ i. cond (p i) 1 0) (λ i h. one (p i))
+  where
+    one : (b : Bool) → one-if b ≡ cond b 1 0
+    one true = refl
+    one false = refl
+
 pub count-le : (n : ℕ) (p : ℕ → Bool) → countBelow n p ≤ n
 count-le n p = omega (arith, sum-most n 1 (λ i. one-if (p i)) (λ i h. one-if-le (p i)))
 
@@ -306,6 +352,13 @@ count-lt (suc n) p q f j h no-p yes-q = go (ℕ-discrete j n) (λ h′. count-lt
 
 pub count-pos : (n : ℕ) (p : ℕ → Bool) (j : ℕ) → j < n → T (p j) → 0 < countBelow n p
 count-pos n p j h t = omega (arith, count-lt n (λ i. false) p (λ i l x. absurd x) j h (λ x. x) t)
+
+-- one number more, that passes or does not
+pub count-in : (p : ℕ → Bool) (n m : ℕ) (b : Bool) → b ≡ p n → b ≡ true → m ≡ countBelow n p → m + 1 ≡ countBelow (n + 1) p
+count-in p n m b e t h = omega (arith, h, sum-suc n (λ i. one-if (p i)), ap one-if (sym e ∙ t))
+
+pub count-out : (p : ℕ → Bool) (n m : ℕ) (b : Bool) → b ≡ p n → b ≡ false → m ≡ countBelow n p → m ≡ countBelow (n + 1) p
+count-out p n m b e t h = omega (arith, h, sum-suc n (λ i. one-if (p i)), ap one-if (sym e ∙ t))
 
 -- below a member there are fewer
 pub count-member : (n : ℕ) (p : ℕ → Bool) (c : ℕ) → c < n → T (p c) → countBelow c p < countBelow n p

@@ -16,9 +16,9 @@ use Rattle.base.specs.Checks.{plain, sideLimit}
 use Rattle.base.specs.Lists.{sameList}
 use Rattle.base.specs.Sets.{anyBelow}
 use Rattle.base.specs.declared.Checked.{Checked}
-use Rattle.base.proofs.Bools.{and-l, and-r, and-i, lt-or-le, eq-or-ne}
+use Rattle.base.proofs.Bools.{and-l, and-r, and-i, eq-or-ne}
 use Rattle.base.proofs.Checks.{pass, stop, group-pass, last-pass, last-stop, passed, length-passed, both-passed, checks-passed}
-use Rattle.base.proofs.Lists.{length-listFrom, getD-listFrom, same-list, list-same, other-list}
+use Rattle.base.proofs.Lists.{length-listFrom, getD-listFrom, same-list, list-same, other-list, step-of}
 use Rattle.base.proofs.Sets.{first-is, sum-zero, sum-suc, sum-mono}
 use Rattle.dof_layout.specs.Layout.{startOf, totalOf, offsetsOf, inBlock, blockOf, isKind, sameKey, blockCheck, blocksCheck, layoutCheck, AreBlocks, IsLayout}
 
@@ -88,20 +88,12 @@ module _ (components : List ℕ) where
       first-is (length components) (λ a. inBlock components a i) b h t
       (λ a l u. absurd (omega (arith, start-mono (suc a) b l, block-below a i u, block-from b i t)))
 
-  some-block : (i k : ℕ) → k ≤ length components → i < startOf components k → (b : ℕ) × (b < length components) × T (inBlock components b i)
-  some-block i zero h l = absurd (omega (arith, start-zero))
-  some-block i (suc k) h l = go (lt-or-le i (startOf components k)) (some-block i k (omega arith))
-    where
-      go : (i < startOf components k) ⊎ (startOf components k ≤ i) → (i < startOf components k → (b : ℕ) × (b < length components) × T (inBlock components b i))
-          → (b : ℕ) × (b < length components) × T (inBlock components b i)
-      go (inl u) ih = ih u
-      go (inr u) ih = (k, omega arith, in-block k i u l)
-
   -- and every node of the layout has one
   pub block-holds : (i : ℕ) → i < totalOf components → (blockOf components i < length components) × T (inBlock components (blockOf components i) i)
   block-holds i h =
-      let r : (b : ℕ) × (b < length components) × T (inBlock components b i) = some-block i (length components) (omega arith) h in
-      subst (λ (b : ℕ). (b < length components) × T (inBlock components b i)) (sym (block-is (r .0) i (r .1) (r .2))) (r .1, r .2)
+      let r : (b : ℕ) × (b < length components) × (startOf components b ≤ i) × (i < startOf components (b + 1)) = step-of (startOf components) (length components) i start-zero h in
+      let t : T (inBlock components (r .0) i) = in-block (r .0) i (r .2) (subst (λ (b : ℕ). i < startOf components b) (add-one (r .0)) (r .3)) in
+      subst (λ (b : ℕ). (b < length components) × T (inBlock components b i)) (sym (block-is (r .0) i (r .1) t)) (r .1, t)
 
   -- every node is in exactly one block
   pub one-block : (i : ℕ) → i < totalOf components
@@ -113,6 +105,10 @@ module _ (components : List ℕ) where
 -- the offsets of a built layout
 pub total-at : (offsets components : List ℕ) (b : ℕ) → offsets ≡ offsetsOf components → b ≤ length components → getD offsets b 0 ≡ startOf components b
 total-at offsets components b e h = ap (λ (x : List ℕ). getD x b 0) e ∙ offset-at components b h
+
+-- the last of them
+pub total-is : (offsets components : List ℕ) → offsets ≡ offsetsOf components → getD offsets (length components) 0 ≡ totalOf components
+total-is offsets components e = total-at offsets components (length components) e (omega arith)
 
 pub offsets-count : (offsets components : List ℕ) → offsets ≡ offsetsOf components → length offsets ≡ suc (length components)
 offsets-count offsets components e = ap length e ∙ offsets-length components
@@ -185,6 +181,10 @@ accepted-blocks kinds ids fields components e =
     ends : (m : ℕ) → m ≡ length kinds → length kinds ≢ 0 → ((b : ℕ) → b < length kinds → (0 < getD components b 0) × (startOf components (suc b) ≤ sideLimit)) → startOf components m ≤ sideLimit
     ends zero e n f = absurd (n (sym e))
     ends (suc m) e n f = f m (omega arith) .1
+
+-- no block is empty
+pub none-empty : (kinds ids fields components : List ℕ) → AreBlocks kinds ids fields components → (b : ℕ) → b < length components → 0 < getD components b 0
+none-empty kinds ids fields components a b h = a .filled b (omega (arith, a .components-length))
 
 pub accepted-layout : (kinds ids fields components offsets : List ℕ) → layoutCheck kinds ids fields components offsets ≡ Checked.Accepted
     → IsLayout kinds ids fields components offsets

@@ -10,15 +10,13 @@ use lib.Dec.{T, eqb}
 use lib.ListN.{length, getD}
 use Rattle.base.specs.Checks.{_then_, sideLimit, entryLimit}
 use Rattle.base.specs.declared.Checked.{Checked}
-use Rattle.base.specs.Sets.{one-if}
 use Rattle.base.proofs.Bools.{and-left, and-right, T-true, T-false, lt-or-le}
 use Rattle.base.proofs.Checks.{both-passed, passed}
-use Rattle.base.proofs.Sets.{sum-swap}
 use Rattle.side.specs.Side.{flip, sideWords, sideMasks, sidePtr, pairCount, sideHolds}
 use Rattle.side.specs.Check.{bitsIn}
 use Rattle.side.specs.declared.Fault.{Fault}
 use Rattle.side.specs.declared.BadWord.{BadWord}
-use Rattle.side.proofs.Sides.{held-row, held-col, own-words, own-masks, own-ptr, side-holds, side-is, side-count, as-many}
+use Rattle.side.proofs.Sides.{held-row, held-col, own-words, own-masks, own-ptr, side-holds, side-is, side-count, as-many, pairs-flip}
 use Rattle.side.proofs.Accepted.{limits-passed, limits-pass, sound-only, sound-accepted, lists-not-sound, word-not-sound, disagree-not-sound, sound-side, side-sound, side-as}
 use Rattle.agreement.specs.Agreement.{turned}
 use Rattle.agreement.proofs.Turned.{turned-pair, pair-turned}
@@ -147,7 +145,7 @@ module _ (nrows ncols : ℕ) (ptr idx masks ptr2 idx2 masks2 : List ℕ) (m : Is
           T-false (columns c r) (λ t. absurd (omega (arith, held-row ncols ptr2 idx2 masks2 (m .columns .shape) c r t)))
           ∙ sym (T-false (rows r c) (λ t. absurd (omega (arith, held-col nrows ncols ptr idx masks (m .rows) r c (held-row nrows ptr idx masks (m .rows .shape) r c t) t))))
 
-  flipped-are : columns ≡ flip rows
+  pub flipped-are : columns ≡ flip rows
   flipped-are = fun-ext (λ c. fun-ext (λ r. columns-are c r))
 
   -- its six lists are those of the two sides of its own set of pairs
@@ -173,10 +171,6 @@ module _ (nrows ncols : ℕ) (ptr idx masks ptr2 idx2 masks2 : List ℕ) (m : Is
 module _ (nrows ncols : ℕ) (s : ℕ → ℕ → Bool) (few-rows : nrows ≤ sideLimit) (few-cols : ncols ≤ sideLimit)
     (in-row : (r c : ℕ) → T (s r c) → r < nrows) (in-col : (r c : ℕ) → T (s r c) → c < ncols)
     (few-words : length (sideWords nrows ncols s) ≤ entryLimit) (few-words2 : length (sideWords ncols nrows (flip s)) ≤ entryLimit) (few-pairs : pairCount nrows ncols s ≤ entryLimit) where
-  -- turned round there are as many
-  pub pairs-flip : pairCount ncols nrows (flip s) ≡ pairCount nrows ncols s
-  pairs-flip = sym (sum-swap nrows ncols (λ r c. one-if (s r c)))
-
   abbrev P : List ℕ
   P = sidePtr nrows ncols s
 
@@ -196,7 +190,7 @@ module _ (nrows ncols : ℕ) (s : ℕ → ℕ → Bool) (few-rows : nrows ≤ si
   M2 = sideMasks ncols nrows (flip s)
 
   few-pairs2 : pairCount ncols nrows (flip s) ≤ entryLimit
-  few-pairs2 = omega (arith, pairs-flip)
+  few-pairs2 = omega (arith, pairs-flip nrows ncols s)
 
   pub sides-are : IsTopology nrows ncols P W M P2 W2 M2
   sides-are = record {
@@ -225,7 +219,7 @@ module _ (nrows ncols : ℕ) (s : ℕ → ℕ → Bool) (few-rows : nrows ≤ si
           few-pairs = few-pairs;
         }),
         side-sound nrows ncols P W M (pairCount nrows ncols s) (sides-are .rows) (sym (side-count nrows ncols s (λ r c h t. in-col r c t))),
-        side-sound ncols nrows P2 W2 M2 (pairCount nrows ncols s) (sides-are .columns) (sym pairs-flip ∙ sym (side-count ncols nrows (flip s) (λ c r h t. in-row r c t))),
+        side-sound ncols nrows P2 W2 M2 (pairCount nrows ncols s) (sides-are .columns) (sym (pairs-flip nrows ncols s) ∙ sym (side-count ncols nrows (flip s) (λ c r h t. in-row r c t))),
         agreeing nrows ncols P W M (pairCount nrows ncols s) ncols nrows P2 W2 M2 (pairCount nrows ncols s) refl refl refl (sides-are .flipped),
       )
       (sound-accepted Fault.Sound refl)

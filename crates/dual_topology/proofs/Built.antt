@@ -15,10 +15,8 @@ use Rattle.csr32.specs.Matrix.{stored, IsMatrix}
 use Rattle.csr32.proofs.Matrix.{accepted, stored-row, stored-col, pairs-le}
 use Rattle.transpose.specs.Transpose.{Transposed}
 use Rattle.base.specs.Checks.{entryLimit}
-use Rattle.base.specs.Sets.{one-if}
-use Rattle.base.proofs.Sets.{sum-swap}
 use Rattle.side.specs.Side.{flip, sidePtr, sideWords, sideMasks, pairCount}
-use Rattle.side.proofs.Sides.{side-words-le}
+use Rattle.side.proofs.Sides.{side-words-le, pairs-flip}
 use Rattle.dual_topology.specs.Check.{topologyCheck, IsTopology}
 use Rattle.dual_topology.proofs.Accepted.{sides-are, sides-accepted}
 use Rattle.side.proofs.Accepted.{room-passed}
@@ -61,11 +59,8 @@ module _ (nrows ncols : ℕ) (ptr cols : List ℕ) (m : IsMatrix nrows ncols ptr
   few-words : length (sideWords nrows ncols s) ≤ entryLimit
   few-words = omega (arith, few-pairs, side-words-le nrows ncols s (λ r c h t. stored-col nrows ncols ptr cols m r c t))
 
-  as-many : pairCount ncols nrows (flip s) ≡ pairCount nrows ncols s
-  as-many = sym (sum-swap nrows ncols (λ r c. one-if (s r c)))
-
   few-columns : length (sideWords ncols nrows (flip s)) ≤ entryLimit
-  few-columns = omega (arith, few-pairs, as-many, side-words-le ncols nrows (flip s) (λ c r h t. stored-row nrows ncols ptr cols m r c t))
+  few-columns = omega (arith, few-pairs, pairs-flip nrows ncols s, side-words-le ncols nrows (flip s) (λ c r h t. stored-row nrows ncols ptr cols m r c t))
 
   pub built-topology : IsTopology nrows ncols (sidePtr nrows ncols s) (sideWords nrows ncols s) (sideMasks nrows ncols s) (sidePtr ncols nrows (flip s)) (sideWords ncols nrows (flip s)) (sideMasks ncols nrows (flip s))
   built-topology = sides-are nrows ncols s (m .few-rows) (m .few-cols) (stored-row nrows ncols ptr cols m) (stored-col nrows ncols ptr cols m) few-words few-columns few-pairs

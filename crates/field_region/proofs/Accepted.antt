@@ -2,7 +2,6 @@
 use mathlib.Core.Path.{_≡_, ap, ap₂, _∙_, subst}
 use mathlib.Core.List.{List}
 use Prim.Native.Nat.{ℕ, _^_, _≤_, _<_}
-use native.Mathlib.Omega.{arith}
 use borrow.Author.Tests.{eqb-true}
 use lib.Dec.{eqb}
 use lib.ListN.{length, getD}
@@ -11,13 +10,14 @@ use Rattle.base.specs.declared.Checked.{Checked}
 use Rattle.base.proofs.Bools.{and-left, and-right}
 use Rattle.base.proofs.Checks.{both-passed, passed}
 use Rattle.mask.specs.Mask.{inMask, wordsFor, IsMask}
+use Rattle.mask.proofs.Masks.{accepted-length}
 use Rattle.dof_layout.specs.Layout.{totalOf, IsLayout}
 use Rattle.dof_layout.specs.Answers.{squareCheck}
 use Rattle.dof_layout.proofs.Layouts.{accepted-layout}
 use Rattle.dual_topology.specs.Check.{topologyCheck, IsTopology}
 use Rattle.dual_topology.proofs.Accepted.{accepted-topology}
 use Rattle.graph.specs.Network.{Network, inRegion, blockWithin}
-use Rattle.growth.proofs.Lent.{accepted-length, masks-fit}
+use Rattle.growth.proofs.Lent.{masks-fit}
 use Rattle.field_region.specs.Growth.{fieldGrowCheck, fieldStats, blocksGrownBy}
 use Rattle.field_region.specs.declared.BlocksGrown.{BlocksGrown}
 use Rattle.field_region.specs.declared.FieldAwareRegionStats.{FieldAwareRegionStats}

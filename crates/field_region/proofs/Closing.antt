@@ -1,61 +1,27 @@
--- Closing to blocks, a block at a time: the scan of a block's words, and what a block taken whole or left makes of the mask. Assumes nothing.
+-- Closing to blocks, a block at a time: what a block taken whole or left makes of the mask. Assumes nothing.
 use mathlib.Core.Path.{_≡_, refl, sym, ap, ap₂, _∙_, subst}
 use mathlib.Core.Logic.{_⊎_, inl, inr}
-use mathlib.Core.Bool.{Bool, true, false, not, _&&_, _||_}
+use mathlib.Core.Bool.{Bool, _&&_, _||_}
 use mathlib.Core.List.{List}
-use Prim.Native.Nat.{ℕ, suc, _+_, _-_, _*_, _^_, _≤_, _<_}
+use Prim.Native.Nat.{ℕ, suc, _+_, _*_, _^_, _≤_, _<_}
 use native.Mathlib.Omega.{arith}
 use borrow.Author.Tests.{leb-true}
-use lib.Bits.{bitAnd}
-use lib.Dec.{T, leb, ltb, lt→ltb, ltb→lt, leb→le}
+use lib.Dec.{T, ltb, lt→ltb, ltb→lt}
 use lib.ListN.{length, getD}
 use Rattle.base.specs.Sets.{between}
-use Rattle.base.proofs.Bools.{bool-ext, and-l, and-r, and-i, or-l, or-r, or-e, eq-or-ne, not-below}
+use Rattle.base.proofs.Bools.{bool-ext, and-l, and-r, and-i, or-l, or-r, or-e, eq-or-ne}
 use Rattle.base.specs.declared.Checked.{Checked}
-use Rattle.base.proofs.Checks.{passed, length-passed, both-passed}
+use Rattle.base.proofs.Checks.{passed, both-passed}
 use Rattle.base.proofs.Sets.{None}
-use Rattle.word.specs.Bits.{bitAt, wordOf}
-use Rattle.word.proofs.Bits.{bit-and}
-use Rattle.word.proofs.Words.{bit-word, word-op, and-not-bitwise}
-use Rattle.mask.specs.Mask.{inMask, wordsFor, maskWords, lengthCheck, IsMask}
+use Rattle.mask.specs.Mask.{inMask, wordsFor, maskWords, IsMask}
 use Rattle.mask.specs.Answers.{withRange}
-use Rattle.mask.proofs.Masks.{in-word, mask-cong, mask-holds, accepted-shape}
+use Rattle.mask.proofs.Masks.{mask-cong, mask-holds, accepted-length}
+use Rattle.mask.proofs.Stores.{inRange}
 use Rattle.dof_layout.specs.Layout.{startOf, totalOf, inBlock, blockOf, IsLayout}
 use Rattle.dof_layout.proofs.Layouts.{start-mono, block-is, block-below, block-holds, accepted-layout}
 use Rattle.graph.specs.Network.{closed}
 use Rattle.graph.proofs.Networks.{holding-i, holding-e}
 use Rattle.field_region.specs.Closure.{closeCheck}
-
--- ---- for mask: the nodes of a range in a mask's word
-
--- a mask's members from start up to end
-abbrev pub inRange : List ℕ → ℕ → ℕ → ℕ → Bool
-inRange words start end i = inMask words i && between start end i
-
--- `words[w] & (below end & !below start)` has the range's bits
-pub range-bits : (words : List ℕ) (start end w hi lo : ℕ) → hi ≡ wordOf (λ i. ltb i end) w → lo ≡ wordOf (λ i. ltb i start) w
-    → (j : ℕ) → j < 64 → inRange words start end (64 * w + j) ≡ bitAt (bitAnd (getD words w 0) (bitAnd hi (2 ^ 64 - 1 - lo))) j
-range-bits words start end w hi lo eh el j h =
-    ap₂ (λ (s t : Bool). s && t) (in-word words w j h)
-    (swap (leb start (64 * w + j)) (ltb (64 * w + j) end) ∙ ap (λ (t : Bool). ltb (64 * w + j) end && t) (sym (not-below (64 * w + j) start))
-    ∙ sym (bit-word (λ i. ltb i end && not (ltb i start)) 64 (64 * w) j h) ∙ ap (λ (x : ℕ). bitAt x j) (sym both))
-    ∙ sym (bit-and (getD words w 0) (bitAnd hi (2 ^ 64 - 1 - lo)) j)
-  where
-    swap : (a b : Bool) → (a && b) ≡ (b && a)
-    swap true true = refl
-    swap true false = refl
-    swap false true = refl
-    swap false false = refl
-
-    both : bitAnd hi (2 ^ 64 - 1 - lo) ≡ wordOf (λ i. ltb i end && not (ltb i start)) w
-    both =
-        ap₂ (λ (a b : ℕ). bitAnd a (2 ^ 64 - 1 - b)) eh el
-        ∙ word-op 64 (λ a b. bitAnd a (2 ^ 64 - 1 - b)) (λ s t. s && not t) (and-not-bitwise 64) (λ i. ltb i end) (λ i. ltb i start) (64 * w)
-
--- no member of the range lies before its first word
-pub range-ahead : (words : List ℕ) (start end w : ℕ) → 64 * w ≤ start → None (inRange words start end) (64 * w)
-range-ahead words start end w h i l t =
-    omega (arith, leb→le start i (and-l (leb start i) (ltb i end) (and-r (inMask words i) (between start end i) t)))
 
 -- ---- a block at a time
 
@@ -177,15 +143,10 @@ module _ (components : List ℕ) (p : ℕ → Bool) where
 pub accepted-close : (kinds ids fields components offsets : List ℕ) (len : ℕ) (words out : List ℕ) → ((w : ℕ) → getD words w 0 < 2 ^ 64)
     → closeCheck kinds ids fields components offsets len words out ≡ Checked.Accepted
     → IsLayout kinds ids fields components offsets × (len ≡ totalOf components) × IsMask (totalOf components) words × (wordsFor (totalOf components) ≤ length out)
-unfolding closeCheck lengthCheck
+unfolding closeCheck
 accepted-close kinds ids fields components offsets len words out fits e =
     let p = both-passed _ _ e in
     let q = both-passed _ _ (p .1) in
-    let r = both-passed _ _ (q .0) in
     let lay : IsLayout kinds ids fields components offsets = accepted-layout kinds ids fields components offsets (p .0) in
-    let same : len ≡ totalOf components = length-passed _ _ (r .0) in (
-      lay,
-      same,
-      subst (λ (n : ℕ). IsMask n words) same (accepted-shape len words (omega (arith, lay .blocks .short)) fits (r .1)),
-      leb-true _ _ (passed _ _ (q .1)),
-    )
+    let m = accepted-length (totalOf components) len words (lay .blocks .short) fits (q .0) in
+    (lay, m .0, m .1, leb-true _ _ (passed _ _ (q .1)))

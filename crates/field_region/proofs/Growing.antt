@@ -1,17 +1,17 @@
 -- Field growth on words: its network with the number of nodes as the code has it, the closed seeds, the blocks counted. Assumes nothing.
 use mathlib.Core.Path.{_≡_, sym, ap, ap₂, _∙_, subst}
-use mathlib.Core.Bool.{Bool, true, false, _&&_}
+use mathlib.Core.Bool.{Bool, _&&_}
 use mathlib.Core.List.{List}
-use Prim.Native.Nat.{ℕ, suc, _+_, _<_}
+use Prim.Native.Nat.{ℕ, suc, _<_}
 use native.Mathlib.Omega.{arith}
 use lib.Dec.{eqb}
 use lib.ListN.{length, getD}
-use Rattle.base.specs.Sets.{countBelow, one-if}
-use Rattle.base.proofs.Sets.{any-cong, sum-suc, count-cong}
-use Rattle.mask.specs.Mask.{inMask, maskWords, IsMask}
+use Rattle.base.specs.Sets.{countBelow}
+use Rattle.base.proofs.Sets.{any-cong, count-cong}
+use Rattle.mask.specs.Mask.{inMask, maskWords}
 use Rattle.mask.proofs.Masks.{mask-holds, mask-cong}
-use Rattle.dof_layout.specs.Layout.{startOf, totalOf, offsetsOf, blockOf}
-use Rattle.dof_layout.proofs.Layouts.{total-at, block-is, in-block, start-suc, start-mono}
+use Rattle.dof_layout.specs.Layout.{startOf, totalOf, blockOf}
+use Rattle.dof_layout.proofs.Layouts.{block-is, in-block, start-suc, start-mono}
 use Rattle.graph.specs.Network.{Network, fieldNetwork, holding, closed, blockWithin, inRegion, regionWords}
 use Rattle.graph.proofs.Networks.{Whole, field-whole, hop-start}
 use Rattle.growth.specs.Visits.{grownBy}
@@ -40,10 +40,6 @@ module _ (n : ℕ) (components : List ℕ) (s : ℕ → ℕ → Bool) (e : n ≡
       closed-here x y h
       ∙ mask-cong n (closed n (blockOf components) (inMask y)) (closed n (blockOf components) p)
       (λ i l. any-cong n _ _ (λ j k. ap (λ (v : Bool). eqb (blockOf components j) (blockOf components i) && v) (ap (λ (w : List ℕ). inMask w j) q ∙ mask-holds n p j k)))
-
--- the last offset is the total
-pub total-is : (offsets components : List ℕ) → offsets ≡ offsetsOf components → getD offsets (length components) 0 ≡ totalOf components
-total-is offsets components e = total-at offsets components (length components) e (omega arith)
 
 -- the closed seeds, counted in their words
 pub closed-count : (g : Network) (whole : Whole g) (seeds region : List ℕ) (r : ℕ) → region ≡ maskWords (g .nodes) (closed (g .nodes) (g .block) (inMask seeds))
@@ -76,17 +72,3 @@ module _ (components : List ℕ) (s : ℕ → ℕ → Bool) (filled : (b : ℕ) 
       ap (λ (w : List ℕ). inMask w (startOf components b)) e
       ∙ mask-holds (totalOf components) (inRegion (fieldNetwork components s) (inMask seeds) h) (startOf components b) (start-below b l)
       ∙ ap (blockWithin (fieldNetwork components s) (inMask seeds) h) (first-block b l))
-
--- for base: one more number tested
-pub count-in : (p : ℕ → Bool) (n m : ℕ) (b : Bool) → b ≡ p n → b ≡ true → m ≡ countBelow n p → m + 1 ≡ countBelow (n + 1) p
-count-in p n m b e t h = omega (arith, h, sum-suc n (λ i. one-if (p i)), ap one-if (sym e ∙ t))
-
-pub count-out : (p : ℕ → Bool) (n m : ℕ) (b : Bool) → b ≡ p n → b ≡ false → m ≡ countBelow n p → m ≡ countBelow (n + 1) p
-count-out p n m b e t h = omega (arith, h, sum-suc n (λ i. one-if (p i)), ap one-if (sym e ∙ t))
-
--- the same mask under another name
-pub mask-as : (n m : ℕ) (x y : List ℕ) → n ≡ m → x ≡ y → IsMask m y → IsMask n x
-mask-as n m x y e q h = subst (λ (k : ℕ). IsMask k x) (sym e) (subst (IsMask m) (sym q) h)
-
-pub count-as : (n m : ℕ) (x y : List ℕ) (r : ℕ) → n ≡ m → x ≡ y → r ≡ countBelow n (inMask x) → r ≡ countBelow m (inMask y)
-count-as n m x y r e q h = h ∙ ap₂ (λ (k : ℕ) (l : List ℕ). countBelow k (inMask l)) e q

@@ -1,33 +1,19 @@
 -- Owners of blocks: what each check of a block says. Assumes nothing.
-use mathlib.Core.Path.{_≡_, refl, sym, ap₂, subst}
-use mathlib.Core.Bool.{Bool, true, false}
+use mathlib.Core.Path.{_≡_, refl, sym, ap₂}
+use mathlib.Core.Bool.{true, false}
 use mathlib.Core.List.{List}
 use Prim.Native.Nat.{ℕ, _+_, _-_, _≤_, _<_}
 use native.Mathlib.Omega.{arith}
 use borrow.Author.Tests.{lt-ltb, le-ltb, leb-true}
-use lib.Dec.{T, eqb}
+use lib.Dec.{eqb}
 use lib.ListN.{length, getD}
 use Rattle.base.specs.Checks.{plain}
 use Rattle.base.specs.Sets.{everyBelow}
 use Rattle.base.specs.declared.Checked.{Checked}
-use Rattle.base.proofs.Bools.{T-true, T-false}
 use Rattle.base.proofs.Checks.{pass, stop, last-pass, last-stop, passed, length-passed, both-passed}
-use Rattle.base.proofs.Sets.{every-i, every-e}
-use Rattle.dof_layout.specs.Layout.{startOf, totalOf, AreBlocks, IsLayout}
+use Rattle.dof_layout.specs.Layout.{startOf, totalOf, IsLayout}
 use Rattle.dof_layout.proofs.Layouts.{start-next, start-mono, accepted-layout}
 use Rattle.field_region.specs.Owners.{firstOwner, sameOwner, ownerCheck, ownersCheck}
-
--- ---- for base: every number of a range that starts further on
-
-module _ (p : ℕ → Bool) (from to : ℕ) where
-  pub every-from : ((i : ℕ) → from ≤ i → i < to → T (p i)) → everyBelow (to - from) (λ j. p (from + j)) ≡ true
-  every-from all = T-true (everyBelow (to - from) (λ j. p (from + j))) (every-i (to - from) (λ j. p (from + j)) (λ j l. all (from + j) (omega arith) (omega arith)))
-
-  pub not-every : (k : ℕ) → from ≤ k → k < to → (T (p k) → ⊥) → everyBelow (to - from) (λ j. p (from + j)) ≡ false
-  not-every k h l n =
-      let s : from + (k - from) ≡ k = omega arith in
-      T-false (everyBelow (to - from) (λ j. p (from + j)))
-      (λ t. n (subst (λ (x : ℕ). T (p x)) s (every-e (to - from) (λ j. p (from + j)) t (k - from) (omega arith))))
 
 -- ---- a block's owners
 
@@ -58,10 +44,6 @@ module _ (components owners : List ℕ) (b : ℕ) where
     owner-ok h e = sym (pass _ _ _ _ (lt-ltb _ _ h) (last-pass _ _ _ e refl))
 
 -- ---- what acceptance gives
-
--- no block of a layout is empty
-pub none-empty : (kinds ids fields components : List ℕ) → AreBlocks kinds ids fields components → (b : ℕ) → b < length components → 0 < getD components b 0
-none-empty kinds ids fields components a b h = a .filled b (omega (arith, a .components-length))
 
 pub accepted-owners : (kinds ids fields components offsets owners : List ℕ) (ranks : ℕ) (out : List ℕ)
     → ownersCheck kinds ids fields components offsets owners ranks out ≡ Checked.Accepted

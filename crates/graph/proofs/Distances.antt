@@ -1,9 +1,9 @@
 -- The laws of distance: the tests agree with the walks, one hop looks at the frontier alone, the search comes to rest before there are more
--- hops than blocks, and growing on from a region is growing by the sum.
+-- hops than blocks, and growing on from a region is growing by the sum. Assumes nothing.
 use mathlib.Core.Path.{_≡_, refl, sym, ap, ap₂, _∙_, subst}
 use mathlib.Core.Logic.{_↔_, _⊎_, inl, inr}
 use mathlib.Core.Bool.{Bool, true, false, not, cond, _&&_, _||_}
-use Prim.Native.Nat.{ℕ, zero, suc, _+_, _-_, _≤_, _<_, min}
+use Prim.Native.Nat.{ℕ, zero, suc, _+_, _≤_, _<_, min}
 use native.Mathlib.Omega.{arith}
 use native.Mathlib.Nat.{zero-add, suc-add}
 use native.Mathlib.Decide.{le-ind, decLe}
@@ -23,10 +23,6 @@ module _ (B : ℕ) (link : ℕ → ℕ → Bool) (seeded : ℕ → Bool) where
   -- what links from a block within h lead to
   abbrev reached : ℕ → ℕ → Bool
   reached h b = anyBelow B (λ c. W h c && link c b)
-
-  pub within-suc : (h b : ℕ) → W (suc h) b ≡ (W h b || anyBelow B (λ c. W h c && link c b))
-  unfolding within
-  within-suc h b = refl
 
   pub within-stay : (h b : ℕ) → T (W h b) → T (W (suc h) b)
   unfolding within
@@ -64,6 +60,7 @@ module _ (B : ℕ) (link : ℕ → ℕ → Bool) (seeded : ℕ → Bool) where
       at ih jh (inl a) = let r : Within B link seeded h b = ih a in (r .0, omega arith, r .2)
       at ih jh (inr a) = let r : Within B link seeded h (a .0) = jh (a .0) (a .1) (a .2) in (suc (r .0), omega arith, next (r .2) hb (a .3))
 
+  -- document 01's words: stated for itself
   pub within-iff : (h b : ℕ) → b < B → T (W h b) ↔ Within B link seeded h b
   within-iff h b hb = (within-walk h b hb, λ w. within-mono (w .0) h b (w .1) (walk-within (w .2) .1))
 
@@ -103,6 +100,7 @@ module _ (B : ℕ) (link : ℕ → ℕ → Bool) (seeded : ℕ → Bool) where
       at (yes le) = le
       at (no n) = absurd (exactly-new h b t (within-mono k h b (omega arith) w))
 
+  -- document 01's words: stated for itself
   pub distance-iff : (h b : ℕ) → b < B → T (X h b) ↔ Distance B link seeded h b
   distance-iff h b hb = (to, from)
     where

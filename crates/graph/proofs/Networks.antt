@@ -1,10 +1,10 @@
 -- The laws of growth on a network: a block is reached through its nodes, growing on from a region, one hop node by node, and the sums over
--- visited nodes.
+-- visited nodes. Assumes nothing.
 use mathlib.Core.Path.{_≡_, refl, sym, ap, _∙_, subst}
 use mathlib.Core.Logic.{_⊎_, inl, inr}
-use mathlib.Core.Bool.{Bool, true, false, not, _&&_, _||_}
+use mathlib.Core.Bool.{Bool, true, false, not, _&&_, _||_, or-comm}
 use mathlib.Core.List.{List}
-use Prim.Native.Nat.{ℕ, zero, suc, _+_, _-_, _≤_, _<_, min}
+use Prim.Native.Nat.{ℕ, zero, suc, _+_, _≤_, _<_, min}
 use native.Mathlib.Omega.{arith}
 use native.Mathlib.Nat.{not-suc-le-zero}
 use lib.Dec.{T, eqb, eqb→eq, eqb-refl}
@@ -86,17 +86,11 @@ module _ (g : Network) where
         and-r (eqb (g .block i) b && eqb (g .block j) c) (joined (g .stored) i j) (q .2),
       )
 
-  -- links go both ways
+  -- links go both ways, whichever side stores the pair: stated for itself
   pub linked-sym : (b c : ℕ) → T (L b c) → T (L c b)
   linked-sym b c t =
       let r : (i : ℕ) × (j : ℕ) × (i < g .nodes) × (j < g .nodes) × (g .block i ≡ b) × (g .block j ≡ c) × T (joined (g .stored) i j) = linked-e b c t in
-      linked-i c b (r .1) (r .0) (r .3) (r .2) (r .5) (r .4) (flip (g .stored (r .0) (r .1)) (g .stored (r .1) (r .0)) (r .6))
-    where
-      flip : (a b : Bool) → T (a || b) → T (b || a)
-      flip true true t = tt
-      flip true false t = tt
-      flip false true t = tt
-      flip false false t = t
+      linked-i c b (r .1) (r .0) (r .3) (r .2) (r .5) (r .4) (subst (λ (v : Bool). T v) (or-comm (g .stored (r .0) (r .1)) (g .stored (r .1) (r .0))) (r .6))
 
   -- a block that is reached holds a node
   pub reached-node : (s : ℕ → Bool) (h b : ℕ) → T (within (g .blocks) (linked g) (seeded g s) h b) → (i : ℕ) × (i < g .nodes) × (g .block i ≡ b)
@@ -127,7 +121,7 @@ module _ (g : Network) where
   unfolding regionWords
   region-at seeds h i hi = mask-holds (g .nodes) (inRegion g (inMask seeds) h) i hi
 
-  -- COMPOSITION: growing by h from the region of growing by a is growing by h + a, in all words of the region, and of the frontier if h is at least 1
+  -- growing by h from the region of growing by a is growing by h + a, in all words of the region, and of the frontier if h is at least 1: stated for itself
   pub regrow-region : (seeds : List ℕ) (a h : ℕ) → regionWords g (regionWords g seeds a) h ≡ regionWords g seeds (h + a)
   unfolding regionWords
   regrow-region seeds a h = mask-cong (g .nodes) (inRegion g (inMask (regionWords g seeds a)) h) (inRegion g (inMask seeds) (h + a)) (λ i hi.
@@ -146,7 +140,7 @@ module _ (g : Network) where
   regrow-frontier seeds a zero le = absurd (not-suc-le-zero le)
   regrow-frontier seeds a (suc h) le = regrow-frontier-suc seeds a h
 
--- ---- a count of hops at or past the number of blocks
+-- ---- hops past the number of blocks reach nothing more: stated for itself
 
 module _ (g : Network) (whole : Whole g) where
   pub region-cap : (M : ℕ) → g .blocks ≤ M → (seeds : List ℕ) (h : ℕ) → regionWords g seeds h ≡ regionWords g seeds (min h M)

@@ -1,5 +1,5 @@
 -- One turn of a growth on masks: from the masks after k hops to those after k + 1, and what they are when the loop has ended. What a turn
--- is handed: the frontier's neighbours with the whole of their blocks. Each set is given by its mask's words.
+-- is handed: the frontier's neighbours with the whole of their blocks. Each set is given by its mask's words. Assumes nothing.
 use mathlib.Core.Path.{_≡_, sym, ap, ap₂, _∙_, subst}
 use mathlib.Core.Logic.{_⊎_, inl, inr}
 use mathlib.Core.Bool.{Bool, true, false, not, _&&_, _||_}

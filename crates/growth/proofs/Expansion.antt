@@ -1,5 +1,5 @@
 -- The frontier's members one after the other: what their rows and columns reach, and the sums over them. Assumes nothing.
-use mathlib.Core.Path.{_≡_, refl, sym, ap, ap₂, _∙_, subst}
+use mathlib.Core.Path.{_≡_, refl, sym, ap, ap₂, _∙_}
 use mathlib.Core.Bool.{Bool, true, false, cond, _&&_, _||_}
 use mathlib.Core.List.{List}
 use Prim.Native.Nat.{ℕ, _+_, _*_, _≤_, _<_}
@@ -10,8 +10,8 @@ use Rattle.base.specs.Checks.{sideLimit, entryLimit}
 use Rattle.base.specs.Sets.{anyBelow, sumBelow, sumOver, countBelow, one-if}
 use Rattle.base.proofs.Bools.{T-true, and-l}
 use Rattle.base.proofs.Sets.{any-past, any-next, any-none, over-past, over-le, sum-zero, sum-suc, sum-mono, sum-add, count-past, count-le}
-use Rattle.mask.specs.Mask.{inMask, maskWords, IsMask}
-use Rattle.mask.proofs.Masks.{mask-holds, mask-cong, mask-is}
+use Rattle.mask.specs.Mask.{inMask, maskWords}
+use Rattle.mask.proofs.Masks.{mask-holds, mask-cong}
 use Rattle.mask.proofs.Nexts.{Next}
 use Rattle.side.specs.Side.{flip, rowWords, sideHolds}
 use Rattle.dual_topology.specs.Check.{IsTopology}
@@ -20,10 +20,6 @@ use Rattle.graph.specs.Network.{joined, touched}
 use Rattle.growth.specs.Visits.{takenOf, visitsOf}
 use Rattle.growth.specs.declared.Taken.{Taken}
 use Rattle.growth.proofs.Visits.{counts, same-counts, words-within, bits-within, column-words-within, column-bits-within}
-
--- for mask: the words of a set are a mask
-pub is-of : (n : ℕ) (p : ℕ → Bool) (l : List ℕ) → n ≤ sideLimit → l ≡ maskWords n p → IsMask n l
-is-of n p l h e = subst (IsMask n) (sym e) (mask-is n p h)
 
 module _ (n : ℕ) (s : ℕ → ℕ → Bool) (frontier : List ℕ) where
   -- what the members below i reach

@@ -1,20 +1,20 @@
 -- What a growth counts, turn by turn: nothing before the first hop, the frontier's counts at each, and at the end those of the visited nodes.
 -- Assumes nothing.
-use mathlib.Core.Path.{_≡_, refl, sym, ap, ap₂, _∙_}
+use mathlib.Core.Path.{_≡_, sym, ap, ap₂, _∙_}
 use mathlib.Core.Logic.{_⊎_, inl, inr}
-use mathlib.Core.Bool.{Bool, true, false, cond}
+use mathlib.Core.Bool.{Bool, true, false}
 use mathlib.Core.List.{List}
 use Prim.Native.Nat.{ℕ, suc, _+_, _≤_, _<_}
 use native.Mathlib.Omega.{arith}
 use lib.Dec.{T}
 use lib.ListN.{length}
 use Rattle.base.specs.Checks.{sideLimit}
-use Rattle.base.specs.Sets.{anyBelow, sumOver, countBelow, one-if}
+use Rattle.base.specs.Sets.{anyBelow, sumOver, countBelow}
 use Rattle.base.proofs.Bools.{not-T-of}
-use Rattle.base.proofs.Sets.{sum-cong, sum-none, count-cong}
+use Rattle.base.proofs.Sets.{sum-none, count-cong, over-cong, count-ones}
 use Rattle.mask.specs.Mask.{inMask, maskWords, IsMask}
 use Rattle.mask.specs.Answers.{combined, union, andNot}
-use Rattle.mask.proofs.Masks.{mask-holds, mask-cong}
+use Rattle.mask.proofs.Masks.{mask-holds, mask-cong, is-of}
 use Rattle.side.specs.Side.{flip, rowWords}
 use Rattle.graph.specs.Distance.{anyAt}
 use Rattle.graph.specs.Network.{Network, touched, closed, linked, seeded, inFrontier, visited, regionWords, frontierWords}
@@ -23,27 +23,15 @@ use Rattle.graph.proofs.Turns.{Hopping, Masks, begin, turn, finish, any-frontie
 use Rattle.growth.specs.Visits.{visitsOf, nothing, together, grownBy}
 use Rattle.growth.specs.declared.Visited.{Visited}
 use Rattle.growth.proofs.Visits.{same-counts}
-use Rattle.growth.proofs.Expansion.{is-of}
-
--- a count is a sum of ones
-count-ones : (n : ℕ) (p : ℕ → Bool) → countBelow n p ≡ sumOver n p (λ i. 1)
-count-ones n p = sum-cong n (λ i. one-if (p i)) (λ i. cond (p i) 1 0) (λ i h. one (p i))
-  where
-    one : (b : Bool) → one-if b ≡ cond b 1 0
-    one true = refl
-    one false = refl
 
 module _ (n : ℕ) (s : ℕ → ℕ → Bool) where
-  over-cong : (p q : ℕ → Bool) (f : ℕ → ℕ) → ((i : ℕ) → i < n → p i ≡ q i) → sumOver n p f ≡ sumOver n q f
-  over-cong p q f e = sum-cong n (λ i. cond (p i) (f i) 0) (λ i. cond (q i) (f i) 0) (λ i h. ap (λ (v : Bool). cond v (f i) 0) (e i h))
-
   pub visits-cong : (p q : ℕ → Bool) → ((i : ℕ) → i < n → p i ≡ q i) → visitsOf n s p ≡ visitsOf n s q
   visits-cong p q e =
       same-counts _ _ _ _ _ _ _ _
       (count-cong n p q e)
-      (over-cong p q (λ i. length (rowWords n (s i))) e)
-      (over-cong p q (λ i. length (rowWords n (flip s i))) e)
-      (over-cong p q (λ i. countBelow n (s i) + countBelow n (flip s i)) e)
+      (over-cong n p q (λ i. length (rowWords n (s i))) e)
+      (over-cong n p q (λ i. length (rowWords n (flip s i))) e)
+      (over-cong n p q (λ i. countBelow n (s i) + countBelow n (flip s i)) e)
 
 module _ (g : Network) (seeds : List ℕ) where
   abbrev n : ℕ
@@ -89,9 +77,6 @@ module _ (g : Network) (seeds : List ℕ) (short : g .nodes ≤ sideLimit) (h k 
 
   pub frontier-mask : IsMask (g .nodes) frontier
   frontier-mask = is-of (g .nodes) _ frontier short (at .masks .edge)
-
-  pub scratch-mask : IsMask (g .nodes) scratch
-  scratch-mask = is-of (g .nodes) _ scratch short (at .masks .zero)
 
 module _ (g : Network) (whole : Whole g) (seeds : List ℕ) where
   pub growing-first : (h : ℕ) (region frontier scratch : List ℕ) (some : Bool) (visits : Visited)

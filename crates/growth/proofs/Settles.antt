@@ -1,78 +1,22 @@
 -- What is new in a mask, a word at a time: the three words that `settle` stores, and whether anything is new. Assumes nothing.
 use mathlib.Core.Path.{_≡_, refl, sym, ap, ap₂, _∙_, subst}
-use mathlib.Core.Bool.{Bool, true, false, not, _&&_, _||_, or-assoc}
+use mathlib.Core.Bool.{Bool, true, false, not, _&&_, _||_}
 use mathlib.Core.List.{List}
-use Prim.Native.Nat.{ℕ, zero, suc, _+_, _-_, _*_, _^_, _≤_, _<_}
+use Prim.Native.Nat.{ℕ, _+_, _-_, _*_, _^_, _≤_, _<_}
 use native.Mathlib.Omega.{arith}
-use native.Mathlib.Nat.{add-zero, add-suc}
 use lib.Bits.{bitAnd, bitOr}
-use lib.Dec.{T, eqb}
+use lib.Dec.{eqb}
 use lib.ListN.{length, getD, set, getD-replicate, length-set}
 use Rattle.base.specs.Lists.{written}
 use Rattle.base.specs.Sets.{anyBelow}
-use Rattle.base.proofs.Bools.{bool-ext, or-false}
 use Rattle.base.proofs.Lists.{put-next, put-whole, put-ahead}
-use Rattle.base.proofs.Sets.{any-i, any-e, any-cong, any-none}
-use Rattle.word.specs.Bits.{bitAt}
+use Rattle.base.proofs.Sets.{any-none}
 use Rattle.word.specs.declared.Operation.{Operation}
-use Rattle.word.proofs.Bits.{bit-or}
-use Rattle.word.proofs.Words.{op-bits, or-bitwise, and-not-bitwise, word-empty}
+use Rattle.word.proofs.Words.{op-bits, or-bitwise, and-not-bitwise}
 use Rattle.mask.specs.Mask.{inMask, wordsFor, maskWords, IsMask}
 use Rattle.mask.specs.Answers.{combined, union, andNot}
-use Rattle.mask.proofs.Masks.{in-word, mask-length, mask-cong, mask-holds, mask-is, mask-none, is-length, is-fits, is-below}
-use Rattle.mask.proofs.Passes.{op-turn}
-
--- ---- for base: any below, in two parts
-
-pub any-append : (a b : ℕ) (p : ℕ → Bool) → anyBelow (a + b) p ≡ (anyBelow a p || anyBelow b (λ j. p (a + j)))
-unfolding anyBelow
-any-append a zero p = ap (λ (x : ℕ). anyBelow x p) (add-zero a) ∙ sym (or-false (anyBelow a p))
-any-append a (suc b) p =
-    ap (λ (x : ℕ). anyBelow x p) (add-suc a b) ∙ ap (λ (t : Bool). t || p (a + b)) (any-append a b p)
-    ∙ or-assoc (anyBelow a p) (anyBelow b (λ j. p (a + j))) (p (a + b))
-
-pub any-or : (n : ℕ) (p q : ℕ → Bool) → anyBelow n (λ i. p i || q i) ≡ (anyBelow n p || anyBelow n q)
-unfolding anyBelow
-any-or zero p q = refl
-any-or (suc n) p q = ap (λ (t : Bool). t || (p n || q n)) (any-or n p q) ∙ swap (anyBelow n p) (anyBelow n q) (p n) (q n)
-  where
-    swap : (a b x y : Bool) → ((a || b) || (x || y)) ≡ ((a || x) || (b || y))
-    swap true b x y = refl
-    swap false true true y = refl
-    swap false true false y = refl
-    swap false false x y = refl
-
--- ---- for word: two words together are 0 where both are
-
-pub or-empty : (k a b : ℕ) → a < 2 ^ k → b < 2 ^ k → not (eqb (bitOr a b) 0) ≡ (not (eqb a 0) || not (eqb b 0))
-or-empty k a b ha hb =
-    word-empty k (bitOr a b) (or-bitwise k .fits a b ha hb)
-    ∙ any-cong k (bitAt (bitOr a b)) (λ i. bitAt a i || bitAt b i) (λ i h. bit-or a b i)
-    ∙ any-or k (bitAt a) (bitAt b) ∙ sym (ap₂ _||_ (word-empty k a ha) (word-empty k b hb))
-
--- ---- for mask: whether a mask has a node, a word a turn
-
-module _ (n : ℕ) (words : List ℕ) (m : IsMask n words) where
-  pub any-turn : (w some : ℕ) → w < length words → some < 2 ^ 64 → not (eqb some 0) ≡ anyBelow (64 * w) (inMask words)
-      → not (eqb (bitOr some (getD words w 0)) 0) ≡ anyBelow (64 * (w + 1)) (inMask words)
-  any-turn w some h fits e =
-      let x : 64 * w + 64 ≡ 64 * (w + 1) = omega arith in
-      or-empty 64 some (getD words w 0) fits (is-fits n words m w h)
-      ∙ ap₂ _||_ e (word-empty 64 (getD words w 0) (is-fits n words m w h) ∙ any-cong 64 (bitAt (getD words w 0)) (λ j. inMask words (64 * w + j)) (λ j l. sym (in-word words w j l)))
-      ∙ sym (any-append (64 * w) 64 (inMask words)) ∙ ap (λ (k : ℕ). anyBelow k (inMask words)) x
-
-  pub any-whole : anyBelow (64 * length words) (inMask words) ≡ anyBelow n (inMask words)
-  any-whole = bool-ext (anyBelow (64 * length words) (inMask words)) (anyBelow n (inMask words)) there back
-    where
-      there : T (anyBelow (64 * length words) (inMask words)) → T (anyBelow n (inMask words))
-      there t =
-          let r : (i : ℕ) × (i < 64 * length words) × T (inMask words i) = any-e (64 * length words) (inMask words) t in
-          any-i n (inMask words) (r .0) (is-below n words m (r .0) (r .1) (r .2)) (r .2)
-
-      back : T (anyBelow n (inMask words)) → T (anyBelow (64 * length words) (inMask words))
-      back t =
-          let r : (i : ℕ) × (i < n) × T (inMask words i) = any-e n (inMask words) t in
-          any-i (64 * length words) (inMask words) (r .0) (omega (arith, r .1, is-length n words m)) (r .2)
+use Rattle.mask.proofs.Masks.{mask-length, mask-cong, mask-holds, mask-is, mask-none, is-length, is-fits}
+use Rattle.mask.proofs.Passes.{op-turn, any-turn, any-whole}
 
 -- ---- the three words
 

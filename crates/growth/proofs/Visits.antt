@@ -1,5 +1,5 @@
 -- What a growth counts stays small. Assumes nothing.
-use mathlib.Core.Path.{_≡_, sym, ap, _∙_, subst, fun-ext}
+use mathlib.Core.Path.{_≡_, sym, ap, _∙_, subst}
 use mathlib.Core.Bool.{Bool}
 use mathlib.Core.List.{List}
 use Prim.Native.Nat.{ℕ, _+_, _≤_}
@@ -13,7 +13,7 @@ use Rattle.side.specs.Side.{flip, rowWords, sideHolds}
 use Rattle.side.specs.Check.{IsSide}
 use Rattle.side.proofs.Sides.{own-words, own-pairs}
 use Rattle.dual_topology.specs.Check.{IsTopology}
-use Rattle.dual_topology.proofs.Accepted.{columns-are}
+use Rattle.dual_topology.proofs.Accepted.{flipped-are}
 use Rattle.growth.specs.Visits.{visitsOf, Small}
 use Rattle.growth.specs.declared.Visited.{Visited}
 
@@ -31,7 +31,7 @@ module _ (n : ℕ) (ptr idx masks : List ℕ) (m : IsSide n n ptr idx masks) whe
   s = sideHolds ptr idx masks
 
   -- its rows' words are the stored ones
-  pub words-stored : sumBelow n (λ i. length (rowWords n (s i))) ≡ length masks
+  words-stored : sumBelow n (λ i. length (rowWords n (s i))) ≡ length masks
   words-stored = sym (join-count n (λ i. rowWords n (s i))) ∙ ap length (sym (own-words n n ptr idx masks m)) ∙ m .shape .as-many
 
   pub words-within : sumBelow n (λ i. length (rowWords n (s i))) ≤ entryLimit
@@ -46,15 +46,14 @@ module _ (n : ℕ) (ptr idx masks ptr2 idx2 masks2 : List ℕ) (m : IsTopology n
   abbrev rows : ℕ → ℕ → Bool
   rows = sideHolds ptr idx masks
 
-  -- the columns side holds the pairs turned round
-  turn : sideHolds ptr2 idx2 masks2 ≡ flip rows
-  turn = fun-ext (λ c. fun-ext (λ r. columns-are n n ptr idx masks ptr2 idx2 masks2 m c r))
+  turned : sideHolds ptr2 idx2 masks2 ≡ flip rows
+  turned = flipped-are n n ptr idx masks ptr2 idx2 masks2 m
 
   pub column-words-within : sumBelow n (λ i. length (rowWords n (flip rows i))) ≤ entryLimit
-  column-words-within = subst (λ (t : ℕ → ℕ → Bool). sumBelow n (λ i. length (rowWords n (t i))) ≤ entryLimit) turn (words-within n ptr2 idx2 masks2 (m .columns))
+  column-words-within = subst (λ (t : ℕ → ℕ → Bool). sumBelow n (λ i. length (rowWords n (t i))) ≤ entryLimit) turned (words-within n ptr2 idx2 masks2 (m .columns))
 
   pub column-bits-within : sumBelow n (λ i. countBelow n (flip rows i)) ≤ entryLimit
-  column-bits-within = subst (λ (t : ℕ → ℕ → Bool). sumBelow n (λ i. countBelow n (t i)) ≤ entryLimit) turn (bits-within n ptr2 idx2 masks2 (m .columns))
+  column-bits-within = subst (λ (t : ℕ → ℕ → Bool). sumBelow n (λ i. countBelow n (t i)) ≤ entryLimit) turned (bits-within n ptr2 idx2 masks2 (m .columns))
 
   pub visits-small : (p : ℕ → Bool) → Small (visitsOf n rows p)
   visits-small p =
@@ -68,7 +67,3 @@ module _ (n : ℕ) (ptr idx masks ptr2 idx2 masks2 : List ℕ) (m : IsTopology n
         few-column-words = omega (arith, over-le n p v, column-words-within);
         few-bits = omega (arith, over-le n p (λ i. a i + b i), sum-add n a b, bits-within n ptr idx masks (m .rows), column-bits-within);
       }
-
-  -- no more row words than are stored
-  pub row-words-stored : (p : ℕ → Bool) → visitsOf n rows p .«row_words» ≤ length masks
-  row-words-stored p = omega (arith, over-le n p (λ i. length (rowWords n (rows i))), words-stored n ptr idx masks (m .rows))

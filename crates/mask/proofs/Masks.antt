@@ -13,7 +13,7 @@ use lib.Dec.{T, ltb, lt→ltb, ltb→lt}
 use lib.ListN.{length, getD, set, replicate, length-replicate, getD-replicate, length-set}
 use lib.Seq.{ext-getD, getD-set-same, getD-set-other}
 use Rattle.base.specs.Checks.{sideLimit}
-use Rattle.base.specs.Sets.{everyBelow}
+use Rattle.base.specs.Sets.{everyBelow, countBelow}
 use Rattle.base.specs.declared.Checked.{Checked}
 use Rattle.base.proofs.Bools.{decide, and-l, and-r, or-l, or-r, or-e, T-true, T-false, T-of, lt-or-le}
 use Rattle.base.proofs.Checks.{pass, last-pass, length-pass, passed, length-passed, both-passed}
@@ -111,20 +111,30 @@ accepted-mask len words fits e =
     let a = both-passed _ _ e in
     accepted-shape len words (leb-true _ _ (passed _ _ (a .0))) fits (a .1)
 
+-- a mask of the length that it must have
+pub accepted-length : (expected len : ℕ) (words : List ℕ) → expected ≤ sideLimit → ((w : ℕ) → getD words w 0 < 2 ^ 64) → lengthCheck expected len words ≡ Checked.Accepted
+    → (len ≡ expected) × IsMask expected words
+unfolding lengthCheck
+accepted-length expected len words h fits e =
+    let a = both-passed _ _ e in
+    let same : len ≡ expected = length-passed _ _ (a .0) in
+    (same, subst (λ (n : ℕ). IsMask n words) same (accepted-shape len words (omega arith) fits (a .1)))
+
 -- two masks, the second of the first's length
 pub accepted-pair : (len : ℕ) (words : List ℕ) (len2 : ℕ) (other : List ℕ) → ((w : ℕ) → getD words w 0 < 2 ^ 64) → ((w : ℕ) → getD other w 0 < 2 ^ 64)
     → pairCheck len words len2 other ≡ Checked.Accepted → IsMask len words × IsMask len other
-unfolding pairCheck lengthCheck
+unfolding pairCheck
 accepted-pair len words len2 other fits fits2 e =
     let a = both-passed _ _ e in
-    let b = both-passed _ _ (a .1) in
     let m : IsMask len words = accepted-mask len words fits (a .0) in
-    let same : len2 ≡ len = length-passed _ _ (b .0) in
-    (m, subst (λ (n : ℕ). IsMask n other) same (accepted-shape len2 other (omega (arith, m .short)) fits2 (b .1)))
+    (m, accepted-length len len2 other (m .short) fits2 (a .1) .1)
 
 -- the words of a set are an accepted mask
 pub mask-is : (len : ℕ) (p : ℕ → Bool) → len ≤ sideLimit → IsMask len (maskWords len p)
 mask-is len p h = record { short = h; exact = mask-cong len p (inMask (maskWords len p)) (λ i l. sym (mask-holds len p i l)) }
+
+pub is-of : (len : ℕ) (p : ℕ → Bool) (words : List ℕ) → len ≤ sideLimit → words ≡ maskWords len p → IsMask len words
+is-of len p words h e = subst (IsMask len) (sym e) (mask-is len p h)
 
 -- and the check says so: what one call leaves, the next accepts
 pub mask-accepted : (len : ℕ) (p : ℕ → Bool) → len ≤ sideLimit → maskCheck len (maskWords len p) ≡ Checked.Accepted
@@ -198,3 +208,11 @@ mask-none len =
         getD-replicate {A = ℕ} (wordsFor len) w 0 0 l
         ∙ sym (word-none (λ i. ltb i len && false) 64 (64 * w) (λ i a b t. and-r (ltb i len) false t))
         ∙ sym (word-at len (λ i. false) w l)
+
+-- ---- a mask under another name
+
+pub mask-as : (n m : ℕ) (x y : List ℕ) → n ≡ m → x ≡ y → IsMask m y → IsMask n x
+mask-as n m x y e q h = subst (λ (k : ℕ). IsMask k x) (sym e) (subst (IsMask m) (sym q) h)
+
+pub count-as : (n m : ℕ) (x y : List ℕ) (r : ℕ) → n ≡ m → x ≡ y → r ≡ countBelow n (inMask x) → r ≡ countBelow m (inMask y)
+count-as n m x y r e q h = h ∙ ap₂ (λ (k : ℕ) (l : List ℕ). countBelow k (inMask l)) e q

@@ -1,28 +1,28 @@
 -- A pass over a mask's words, one word a turn: whether a node is in it, how many are, an operation with another mask, the members in rising
 -- order. Assumes nothing.
 use mathlib.Core.Path.{_≡_, refl, sym, ap, ap₂, _∙_}
-use mathlib.Core.Bool.{Bool, true, false, _&&_}
+use mathlib.Core.Bool.{Bool, true, false, _&&_, not, _||_}
 use mathlib.Core.List.{List, _++_, map}
 use Prim.Native.Nat.{ℕ, _+_, _-_, _*_, _^_, _≤_, _<_}
 use native.Mathlib.Omega.{arith}
-use lib.Bits.{bitAnd}
+use lib.Bits.{bitAnd, bitOr}
 use lib.Count.{trailingZeros}
-use lib.Dec.{T, ltb}
+use lib.Dec.{T, ltb, eqb}
 use lib.ListN.{length, getD, drop}
 use Rattle.base.specs.Sets.{anyBelow, countBelow, membersFrom, membersBelow}
 use Rattle.base.proofs.Bools.{T-true}
 use Rattle.base.proofs.Lists.{at-head}
-use Rattle.base.proofs.Sets.{None, any-i, any-none, count-past, members-append, members-past}
+use Rattle.base.proofs.Sets.{None, any-i, any-none, count-past, members-append, members-past, any-cong, any-append, any-past}
 use Rattle.word.specs.Bits.{bitAt, setBits, wordFrom}
 use Rattle.word.specs.Answers.{on}
 use Rattle.word.specs.declared.Operation.{Operation}
 use Rattle.word.proofs.Bits.{bit-and, lowest, no-bits}
 use Rattle.word.proofs.Turns.{turn-members}
 use Rattle.word.proofs.Answers.{off}
-use Rattle.word.proofs.Words.{word-ext, on-words}
+use Rattle.word.proofs.Words.{word-ext, on-words, word-empty, or-empty}
 use Rattle.mask.specs.Mask.{inMask, IsMask}
 use Rattle.mask.specs.Answers.{combined}
-use Rattle.mask.proofs.Masks.{in-word, word-at, is-length, is-word, is-below}
+use Rattle.mask.proofs.Masks.{in-word, word-at, is-length, is-word, is-below, is-fits}
 
 -- ---- two masks
 
@@ -41,6 +41,21 @@ module _ (len : ℕ) (words : List ℕ) (m : IsMask len words) where
 
   pub any-over : (p : ℕ → Bool) (w : ℕ) → length words ≤ w → None p (64 * w) → false ≡ anyBelow len p
   any-over p w h none = sym (any-none len p (λ i l t. none i (omega (arith, is-length len words m)) t))
+
+  -- whether a node was found, as the words joined
+  pub any-turn : (w some : ℕ) → w < length words → some < 2 ^ 64 → not (eqb some 0) ≡ anyBelow (64 * w) (inMask words)
+      → not (eqb (bitOr some (getD words w 0)) 0) ≡ anyBelow (64 * (w + 1)) (inMask words)
+  any-turn w some h fits e =
+      let x : 64 * w + 64 ≡ 64 * (w + 1) = omega arith in
+      let f : getD words w 0 < 2 ^ 64 = is-fits len words m w h in
+      or-empty 64 some (getD words w 0) fits f
+      ∙ ap₂ _||_ e (word-empty 64 (getD words w 0) f ∙ any-cong 64 (bitAt (getD words w 0)) (λ j. inMask words (64 * w + j)) (λ j l. sym (in-word words w j l)))
+      ∙ sym (any-append (64 * w) 64 (inMask words)) ∙ ap (λ (k : ℕ). anyBelow k (inMask words)) x
+
+  pub any-whole : anyBelow (64 * length words) (inMask words) ≡ anyBelow len (inMask words)
+  any-whole =
+      any-past len (64 * length words) (inMask words) (omega (arith, is-length len words m))
+      (λ i l u t. omega (arith, is-below len words m i u t))
 
   pub count-all : (w : ℕ) → w ≡ length words → countBelow (64 * w) (inMask words) ≡ countBelow len (inMask words)
   count-all w e =

@@ -6,7 +6,7 @@ use mathlib.Core.List.{List}
 use Prim.Native.Nat.{ℕ, _+_, _-_, _*_, _/_, _%_, _^_, _≤_, _<_}
 use native.Mathlib.Omega.{arith}
 use native.Mathlib.Nat.{lt-of-le-of-lt}
-use lib.Dec.{T, ltb, lt→ltb, ltb→lt}
+use lib.Dec.{T, ltb, lt→ltb, ltb→lt, T-not}
 use lib.ListN.{length, getD}
 use lib.Pow.{shr-le}
 use Rattle.base.specs.Sets.{everyBelow}
@@ -64,10 +64,6 @@ module _ (len : ℕ) (words : List ℕ) (count : length words ≡ wordsFor len) 
       inside (inl h) = h
       inside (inr h) = absurd (not-T-of (bitAt last (len % 64 + found .0)) (bit-past last 64 (len % 64 + found .0) fits h) bit)
 
-      no : (b : Bool) → T b → T (not b) → ⊥
-      no true t u = u
-      no false t u = t
-
       stray : T (everyBelow (64 * length words) (λ i. ltb i len || not (inMask words i))) → ⊥
       stray t =
           let k : len % 64 + found .0 < 64 = inside (lt-or-le (len % 64 + found .0) 64) in
@@ -79,4 +75,4 @@ module _ (len : ℕ) (words : List ℕ) (count : length words ≡ wordsFor len) 
         where
           go : (i : ℕ) → len ≤ i → T (inMask words i) → T (ltb i len) ⊎ T (not (inMask words i)) → ⊥
           go i l held (inl a) = omega (arith, ltb→lt i len a)
-          go i l held (inr a) = no (inMask words i) held a
+          go i l held (inr a) = T-not (inMask words i) a held

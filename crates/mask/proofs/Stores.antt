@@ -1,7 +1,7 @@
 -- What one read or store at a word of a mask is, as a set. Assumes nothing.
 use mathlib.Core.Path.{_≡_, refl, sym, ap, ap₂, _∙_}
 use mathlib.Core.Logic.{_⊎_, inl, inr, _≢_}
-use mathlib.Core.Bool.{Bool, true, false, not, cond, _&&_, _||_}
+use mathlib.Core.Bool.{Bool, true, false, not, cond, _&&_, _||_, and-comm}
 use mathlib.Core.List.{List}
 use Prim.Native.Nat.{ℕ, _+_, _-_, _*_, _/_, _%_, _^_, _≤_, _<_}
 use native.Mathlib.Omega.{arith}
@@ -15,12 +15,13 @@ use Rattle.base.specs.Lists.{isIn}
 use Rattle.base.specs.Sets.{between}
 use Rattle.base.proofs.Bools.{eqb-swap, eq-or-ne, lt-or-le, not-below, and-l, and-r, or-false, T-false}
 use Rattle.base.proofs.Lists.{in-snoc}
+use Rattle.base.proofs.Sets.{None}
 use Rattle.word.specs.Bits.{bitAt, wordOf}
-use Rattle.word.proofs.Bits.{one-shl, bit-test}
-use Rattle.word.proofs.Words.{word-ext, word-none, word-of-bits, word-op, or-bitwise, and-bitwise, and-not-bitwise, word-one, word-below}
+use Rattle.word.proofs.Bits.{one-shl, bit-test, bit-and}
+use Rattle.word.proofs.Words.{word-ext, word-none, word-of-bits, word-op, or-bitwise, and-bitwise, and-not-bitwise, word-one, word-below, bit-word}
 use Rattle.mask.specs.Mask.{inMask, wordsFor, maskWords, IsMask}
 use Rattle.mask.specs.Answers.{withNode, withWord, withRange}
-use Rattle.mask.proofs.Masks.{mask-cong, mask-holds, word-at, is-length, is-word, mask-store}
+use Rattle.mask.proofs.Masks.{mask-cong, mask-holds, word-at, is-length, is-word, mask-store, in-word}
 
 -- reading a node
 pub bit-read : (words : List ℕ) (i : ℕ) → not (eqb (bitAnd (getD words (i / 64) 0) ((1 * 2 ^ (i % 64)) % 2 ^ 64)) 0) ≡ inMask words i
@@ -161,6 +162,31 @@ below-some bound w l h =
     ap (λ (x : ℕ). x - 1) (one-shl (bound - w * 64) h)
     ∙ sym (word-below (64 * w) (bound - w * 64) 64 (omega arith)) ∙ ap (λ (n : ℕ). wordOf (λ i. ltb i n) w) e
 
+-- `below end & !below start`: word w of a range
+range-word : (start end w hi lo : ℕ) → hi ≡ wordOf (λ i. ltb i end) w → lo ≡ wordOf (λ i. ltb i start) w → bitAnd hi (2 ^ 64 - 1 - lo) ≡ wordOf (λ i. ltb i end && not (ltb i start)) w
+range-word start end w hi lo eh el =
+    ap₂ (λ (a b : ℕ). bitAnd a (2 ^ 64 - 1 - b)) eh el
+    ∙ word-op 64 (λ a b. bitAnd a (2 ^ 64 - 1 - b)) (λ s t. s && not t) (and-not-bitwise 64) (λ i. ltb i end) (λ i. ltb i start) (64 * w)
+
+-- ---- a mask's members in a range
+
+abbrev pub inRange : List ℕ → ℕ → ℕ → ℕ → Bool
+inRange words start end i = inMask words i && between start end i
+
+-- the range's bits of word w
+pub range-bits : (words : List ℕ) (start end w hi lo : ℕ) → hi ≡ wordOf (λ i. ltb i end) w → lo ≡ wordOf (λ i. ltb i start) w
+    → (j : ℕ) → j < 64 → inRange words start end (64 * w + j) ≡ bitAt (bitAnd (getD words w 0) (bitAnd hi (2 ^ 64 - 1 - lo))) j
+range-bits words start end w hi lo eh el j h =
+    ap₂ (λ (s t : Bool). s && t) (in-word words w j h)
+    (and-comm (leb start (64 * w + j)) (ltb (64 * w + j) end) ∙ ap (λ (t : Bool). ltb (64 * w + j) end && t) (sym (not-below (64 * w + j) start))
+    ∙ sym (bit-word (λ i. ltb i end && not (ltb i start)) 64 (64 * w) j h) ∙ ap (λ (x : ℕ). bitAt x j) (sym (range-word start end w hi lo eh el)))
+    ∙ sym (bit-and (getD words w 0) (bitAnd hi (2 ^ 64 - 1 - lo)) j)
+
+-- none lies before the first word
+pub range-ahead : (words : List ℕ) (start end w : ℕ) → 64 * w ≤ start → None (inRange words start end) (64 * w)
+range-ahead words start end w h i l t =
+    omega (arith, leb→le start i (and-l (leb start i) (ltb i end) (and-r (inMask words i) (between start end i) t)))
+
 -- ---- a range of nodes, a word at a time
 
 module _ (len : ℕ) (words : List ℕ) (start end : ℕ) where
@@ -184,7 +210,7 @@ module _ (len : ℕ) (words : List ℕ) (start end : ℕ) where
   range-turn w hi lo h le eh el =
       mask-store len (ranged w) (ranged (w + 1)) w (bitOr (getD (maskWords len (ranged w)) w 0) (bitAnd hi (2 ^ 64 - 1 - lo))) h
       (ap₂ bitOr (word-at len (ranged w) w h)
-      (ap₂ (λ (a b : ℕ). bitAnd a (2 ^ 64 - 1 - b)) eh el ∙ word-op 64 (λ a b. bitAnd a (2 ^ 64 - 1 - b)) (λ s t. s && not t) (and-not-bitwise 64) (λ i. ltb i end) (λ i. ltb i start) (64 * w))
+      (range-word start end w hi lo eh el)
       ∙ word-op 64 bitOr (λ s t. s || t) (or-bitwise 64) (λ i. ltb i len && ranged w i) (λ i. ltb i end && not (ltb i start)) (64 * w)
       ∙ word-ext (λ i. (ltb i len && ranged w i) || (ltb i end && not (ltb i start))) (λ i. ltb i len && ranged (w + 1) i) 64 (64 * w) (λ i l u. here i l u))
       (λ i l n. ap (λ (t : Bool). inMask words i || (between start end i && t)) (away i n))

@@ -7,12 +7,12 @@ use Prim.Native.Nat.{ℕ, _+_, _≤_, _<_}
 use native.Mathlib.Nat.{zero-add, sub-zero}
 use native.Mathlib.Omega.{arith}
 use lib.ListN.{length, getD, take, drop, replicate, length-replicate, getD-replicate, List·getD-eq-default, List·getD-append}
-use lib.Seq.{ext-getD, take-at}
+use lib.Seq.{ext-getD}
 use Rattle.base.specs.Lists.{listFrom, over, zeroed}
 use Rattle.base.specs.Sets.{one-if}
 use Rattle.base.proofs.Bools.{T-of, lt-or-le}
-use Rattle.base.proofs.Lists.{length-listFrom, getD-listFrom, listFrom-cong, zero-length}
-use Rattle.base.proofs.Sets.{sum-zero, sum-suc, count-le, count-pos}
+use Rattle.base.proofs.Lists.{length-listFrom, getD-listFrom, listFrom-cong, zero-length, part-take, part-left}
+use Rattle.base.proofs.Sets.{sum-zero, sum-suc, count-le, count-pos, count-in, count-out}
 use Rattle.mask.specs.Mask.{inMask}
 use Rattle.multiplicity.specs.Multiplicity.{regionAt, regionHolds, multiplicityOf, multiplicityStats}
 use Rattle.multiplicity.proofs.Tallies.{stats-cong}
@@ -32,10 +32,12 @@ module _ (n : ℕ) (words : List ℕ) (i : ℕ) where
 
   -- region q holds the node, or does not
   pub mult-in : (q m : ℕ) (b : Bool) → b ≡ regionHolds n words q i → b ≡ true → m ≡ multiplicityOf n q words i → m + 1 ≡ multiplicityOf n (q + 1) words i
-  mult-in q m b e t h = omega (arith, h, mult-next q, ap one-if (sym e ∙ t))
+  unfolding multiplicityOf
+  mult-in = count-in (λ q. regionHolds n words q i)
 
   pub mult-out : (q m : ℕ) (b : Bool) → b ≡ regionHolds n words q i → b ≡ false → m ≡ multiplicityOf n q words i → m ≡ multiplicityOf n (q + 1) words i
-  mult-out q m b e t h = omega (arith, h, mult-next q, ap one-if (sym e ∙ t))
+  unfolding multiplicityOf
+  mult-out = count-out (λ q. regionHolds n words q i)
 
   -- a node that a region holds is counted
   pub mult-pos : (regions q : ℕ) → q < regions → regionHolds n words q i ≡ true → 0 < multiplicityOf n regions words i
@@ -71,10 +73,10 @@ module _ (n : ℕ) (words : List ℕ) where
 
   -- the counts at the front of a lent list
   pub mults-front : (regions : ℕ) (l lent : List ℕ) → l ≡ listFrom (multiplicityOf n regions words) n 0 → take n (l ++ drop n lent) ≡ listFrom (multiplicityOf n regions words) n 0
-  mults-front regions l lent e = take-at l (drop n lent) n (ap length e ∙ length-listFrom (multiplicityOf n regions words) n 0) ∙ e
+  mults-front regions l lent e = part-take l (listFrom (multiplicityOf n regions words) n 0) lent n e (sym (length-listFrom (multiplicityOf n regions words) n 0))
 
   pub mults-over : (regions : ℕ) (l lent : List ℕ) → l ≡ listFrom (multiplicityOf n regions words) n 0 → l ++ drop n lent ≡ over (listFrom (multiplicityOf n regions words) n 0) lent
-  mults-over regions l lent e = ap₂ (λ (x : List ℕ) (k : ℕ). x ++ drop k lent) e (sym (length-listFrom (multiplicityOf n regions words) n 0))
+  mults-over regions l lent e = part-left l (listFrom (multiplicityOf n regions words) n 0) lent n e (sym (length-listFrom (multiplicityOf n regions words) n 0))
 
   -- and their statistics
   pub mults-stats : (regions : ℕ) (l : List ℕ) → l ≡ listFrom (multiplicityOf n regions words) n 0

@@ -1,6 +1,6 @@
 -- What the statistics count: memberships region by region, and the nodes that two regions share. Assumes nothing.
 use mathlib.Core.Path.{_≡_, refl, sym, ap, ap₂, _∙_}
-use mathlib.Core.Bool.{Bool, true, false, _&&_}
+use mathlib.Core.Bool.{Bool, true, false, _&&_, and-true, and-false}
 use Prim.Native.Nat.{ℕ, zero, suc, _+_, _-_, _*_, _/_}
 use native.Mathlib.Nat.{add-zero}
 use native.Mathlib.Omega.{arith}
@@ -24,16 +24,8 @@ pairs-next m false = ap pairsOf (add-zero m) ∙ omega arith
 
 -- the regions before q that hold a node with q
 both : (q : ℕ) (p : ℕ → Bool) (b : Bool) → one-if b * countBelow q p ≡ countBelow q (λ k. p k && b)
-both q p true = omega (arith, count-cong q p (λ k. p k && true) (λ k h. one (p k)))
-  where
-    one : (a : Bool) → a ≡ (a && true)
-    one true = refl
-    one false = refl
-both q p false = omega (arith, count-cong q (λ k. p k && false) (λ k. false) (λ k h. none (p k)), sum-none q)
-  where
-    none : (a : Bool) → (a && false) ≡ false
-    none true = refl
-    none false = refl
+both q p true = omega (arith, count-cong q p (λ k. p k && true) (λ k h. sym (and-true (p k))))
+both q p false = omega (arith, count-cong q (λ k. p k && false) (λ k. false) (λ k h. and-false (p k)), sum-none q)
 
 -- the pairs at each node, summed, are the nodes that each pair of regions shares, summed
 pub pairs-shared : (n regions : ℕ) (h : ℕ → ℕ → Bool) → sumBelow n (λ i. pairsOf (countBelow regions (λ q. h q i))) ≡ sumBelow regions (λ q. sumBelow q (λ p. countBelow n (λ i. h p i && h q i)))

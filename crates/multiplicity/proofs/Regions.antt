@@ -2,36 +2,27 @@
 use mathlib.Core.Path.{_≡_, sym, ap, _∙_, subst}
 use mathlib.Core.Logic.{_⊎_, inl, inr, _≢_}
 use mathlib.Core.Bool.{true, false, not}
-use mathlib.Core.List.{List, [], _∷_}
-use Prim.Native.Nat.{ℕ, zero, suc, _+_, _-_, _*_, _/_, _%_, _^_, _≤_, _<_}
+use mathlib.Core.List.{List}
+use Prim.Native.Nat.{ℕ, _+_, _-_, _*_, _/_, _%_, _^_, _≤_, _<_}
 use native.Mathlib.Omega.{arith}
-use native.Mathlib.Nat.{sub-zero, zero-sub, suc-sub-suc, mul-le-mul, mul-le-mul-right}
+use native.Mathlib.Nat.{mul-le-mul, mul-le-mul-right}
 use borrow.Author.Tests.{leb-true, ltb-true}
 use lib.Bits.{bitAnd}
 use lib.Dec.{eqb}
 use lib.ListN.{length, getD, take, drop, length-take, length-drop, List·getD-eq-default}
-use lib.Seq.{slice, take-nil, length-slice}
+use lib.Seq.{length-slice}
 use Rattle.base.specs.Checks.{sideLimit, regionLimit}
 use Rattle.base.specs.Sets.{everyBelow}
 use Rattle.base.specs.declared.Checked.{Checked}
 use Rattle.base.proofs.Bools.{T-true, T-false, T-of, not-T-of, lt-or-le}
 use Rattle.base.proofs.Checks.{passed, length-passed, both-passed}
-use Rattle.base.proofs.Lists.{getD-slice}
+use Rattle.base.proofs.Lists.{getD-slice, part-slice}
 use Rattle.base.proofs.Sets.{every-i, every-e}
 use Rattle.mask.specs.Mask.{wordsFor, clean}
 use Rattle.mask.proofs.Masks.{mask-of}
 use Rattle.mask.proofs.Shape.{clean-whole, clean-none, clean-some}
 use Rattle.mask.proofs.Stores.{bit-read}
 use Rattle.multiplicity.specs.Multiplicity.{regionAt, regionHolds, regionsCheck, multiplicityCheck, weightCheck, Regions}
-
--- ---- for base
-
--- a part as the code takes it
-pub part-slice : (f t : ℕ) (l : List ℕ) → take (t - f) (drop f l) ≡ slice f t l
-part-slice zero t l = ap (λ (n : ℕ). take n l) (sub-zero t)
-part-slice (suc f) zero l = ap (λ (n : ℕ). take n (drop (suc f) l)) (zero-sub (suc f))
-part-slice (suc f) (suc t) [] = take-nil (suc t - suc f)
-part-slice (suc f) (suc t) (x ∷ l) = ap (λ (n : ℕ). take n (drop f l)) (suc-sub-suc t f) ∙ part-slice f t l
 
 -- ---- places in the flat list
 

@@ -1,6 +1,7 @@
 -- The statistics of counts, one count a turn. Assumes nothing.
-use mathlib.Core.Path.{_≡_, refl, sym, ap, ap₂}
-use Prim.Native.Nat.{ℕ, zero, suc, _+_, _-_, _*_, _^_, _≤_, _<_, max}
+use mathlib.Core.Path.{_≡_, refl, sym, ap}
+use mathlib.Core.Bool.{true, false}
+use Prim.Native.Nat.{ℕ, zero, suc, _+_, _-_, _*_, _^_, _≤_, _<_}
 use native.Mathlib.Nat.{mul-le-mul}
 use native.Mathlib.Omega.{arith}
 use borrow.Author.Tests.{lt-ltb, le-ltb}
@@ -8,17 +9,10 @@ use lib.Dec.{ltb}
 use lib.Ieee.{Float}
 use Rattle.base.specs.Checks.{sideLimit, regionLimit}
 use Rattle.base.specs.Sets.{sumBelow, largestBelow, countBelow, one-if}
-use Rattle.base.proofs.Sets.{sum-zero, sum-suc, sum-cong, sum-le, sum-most, largest-none, largest-next, count-le, count-cong}
+use Rattle.base.proofs.Sets.{sum-zero, sum-suc, sum-cong, sum-le, sum-most, largest-none, largest-next, count-le, count-cong, largest-cong, count-in, count-out}
 use Rattle.topology.specs.Statistics.{ratio}
 use Rattle.multiplicity.specs.declared.AbtmRegionMultiplicityStats.{AbtmRegionMultiplicityStats}
 use Rattle.multiplicity.specs.Multiplicity.{pairsOf, multiplicityStats}
-
--- ---- for base
-
-pub largest-cong : (n : ℕ) (f g : ℕ → ℕ) → ((i : ℕ) → i < n → f i ≡ g i) → largestBelow n f ≡ largestBelow n g
-unfolding largestBelow
-largest-cong zero f g e = refl
-largest-cong (suc n) f g e = ap₂ max (largest-cong n f g (λ i h. e i (omega arith))) (e n (omega arith))
 
 -- ---- sizes
 
@@ -54,10 +48,10 @@ tally-none m =
 
 module _ (m : ℕ → ℕ) (i : ℕ) where
   pub more-in : (b x : ℕ) → b < m i → x ≡ countBelow i (λ k. ltb b (m k)) → x + 1 ≡ countBelow (i + 1) (λ k. ltb b (m k))
-  more-in b x h e = omega (arith, e, sum-suc i (λ k. one-if (ltb b (m k))), ap one-if (lt-ltb b (m i) h))
+  more-in b x h e = count-in (λ k. ltb b (m k)) i x true (sym (lt-ltb b (m i) h)) refl e
 
   pub more-out : (b x : ℕ) → m i ≤ b → x ≡ countBelow i (λ k. ltb b (m k)) → x ≡ countBelow (i + 1) (λ k. ltb b (m k))
-  more-out b x h e = omega (arith, e, sum-suc i (λ k. one-if (ltb b (m k))), ap one-if (le-ltb b (m i) h))
+  more-out b x h e = count-out (λ k. ltb b (m k)) i x false (sym (le-ltb b (m i) h)) refl e
 
   pub most-in : (x : ℕ) → x < m i → x ≡ largestBelow i m → m i ≡ largestBelow (i + 1) m
   most-in x h e = omega (arith, e, largest-next i m)

@@ -8,12 +8,13 @@ use Rattle.base.specs.Sets.{countBelow}
 use Rattle.base.specs.declared.Checked.{Checked}
 use Rattle.base.proofs.Checks.{both-passed, passed}
 use Rattle.mask.specs.Mask.{inMask, wordsFor, IsMask}
+use Rattle.mask.proofs.Masks.{accepted-length}
 use Rattle.dual_topology.specs.Check.{topologyCheck, IsTopology}
 use Rattle.dual_topology.proofs.Accepted.{accepted-topology}
 use Rattle.graph.specs.Network.{Network, regionWords}
 use Rattle.growth.specs.Visits.{grownBy}
 use Rattle.growth.specs.declared.Grown.{Grown}
-use Rattle.growth.proofs.Lent.{accepted-length, masks-fit, region-count}
+use Rattle.growth.proofs.Lent.{masks-fit, region-count}
 use Rattle.region.specs.Growth.{growCheck, growthStats}
 use Rattle.region.specs.declared.AbtmRegionGrowthStats.{AbtmRegionGrowthStats}
 

@@ -15,7 +15,7 @@ use Rattle.base.specs.Sets.{firstBelow}
 use Rattle.base.specs.declared.Checked.{Checked}
 use Rattle.base.proofs.Bools.{and-left, and-right, and-i, T-of, T-true, T-false, or-e, or-l, or-r, eq-or-ne, lt-or-le, T-not-zero, not-zero-T}
 use Rattle.base.proofs.Checks.{passed, both-passed, refused-not-accepted}
-use Rattle.base.proofs.Lists.{pairwise-at, pairwise-i, rise-to}
+use Rattle.base.proofs.Lists.{pairwise-at, pairwise-i, rise-to, step-of}
 use Rattle.base.proofs.Sets.{None, First, first-at, first-is, first-none}
 use Rattle.side.specs.Check.{limitCheck, faultCheck, sideRoom, bitsIn, listsAgree, wordInside, goodWord, rowAt, badAt, wordsFault, sideFault, sideCheck, Rising, IsRows, IsSide}
 use Rattle.side.specs.declared.Fault.{Fault}
@@ -153,16 +153,7 @@ module _ (nrows ncols : ℕ) (ptr idx masks : List ℕ) (m : IsRows nrows ptr id
 
   -- every word is in a row
   pub row-of : (k : ℕ) → k < length masks → (r : ℕ) × (r < nrows) × (getD ptr r 0 ≤ k) × (k < getD ptr (r + 1) 0)
-  row-of k h = go nrows (le-refl nrows) (omega (arith, m .ends))
-    where
-      go : (n : ℕ) → n ≤ nrows → k < getD ptr n 0 → (r : ℕ) × (r < nrows) × (getD ptr r 0 ≤ k) × (k < getD ptr (r + 1) 0)
-      go zero u l = absurd (omega (arith, m .starts))
-      go (suc n) u l = here (lt-or-le k (getD ptr n 0)) (go n (omega arith))
-        where
-          here : (k < getD ptr n 0) ⊎ (getD ptr n 0 ≤ k) → (k < getD ptr n 0 → (r : ℕ) × (r < nrows) × (getD ptr r 0 ≤ k) × (k < getD ptr (r + 1) 0))
-              → (r : ℕ) × (r < nrows) × (getD ptr r 0 ≤ k) × (k < getD ptr (r + 1) 0)
-          here (inl a) ih = ih a
-          here (inr a) ih = let e : n + 1 ≡ suc n = omega arith in (n, omega arith, a, subst (λ (x : ℕ). k < getD ptr x 0) (sym e) l)
+  row-of k h = step-of (λ r. getD ptr r 0) nrows k (m .starts) (omega (arith, m .ends))
 
   -- the answer where nothing is bad, and where k is the first bad word
   pub words-sound : None (badAt nrows ncols ptr idx masks) (length masks) → Fault.Sound ≡ wordsFault nrows ncols ptr idx masks

@@ -1,27 +1,26 @@
 -- A row's words and the columns that they hold. Assumes nothing.
-use mathlib.Core.Path.{_≡_, refl, sym, ap, _∙_, subst}
+use mathlib.Core.Path.{_≡_, refl, sym, ap, _∙_, subst, ap₂}
 use mathlib.Core.Logic.{_⊎_, inl, inr, _≢_}
-use mathlib.Core.Bool.{Bool, false, not, cond, _||_}
+use mathlib.Core.Bool.{Bool, false, not, cond, _||_, _&&_}
 use mathlib.Core.List.{List, [], _∷_}
 use Prim.Native.Nat.{ℕ, zero, suc, _+_, _-_, _*_, _/_, _%_, _^_, _≤_, _<_}
 use native.Mathlib.Omega.{arith}
-use native.Mathlib.Nat.{not-suc-le-zero}
+use native.Mathlib.Nat.{not-suc-le-zero, le-refl}
 use native.Mathlib.Decide.{ℕ-discrete}
 use lib.Bits.{bitAnd}
-use lib.Dec.{T, eqb, ltb}
+use lib.Dec.{T, eqb}
 use lib.ListN.{length, getD}
 use lib.Seq.{slice, length-slice}
 use borrow.Author.Tests.{eq-eqb, ne-eqb}
-use Rattle.base.proofs.Bools.{bool-ext, T-of}
-use Rattle.base.proofs.Sets.{every-e}
+use Rattle.base.proofs.Bools.{bool-ext, eq-or-ne, or-false}
 use Rattle.base.proofs.Lists.{getD-slice}
 use Rattle.word.specs.Bits.{bitAt, wordOf}
 use Rattle.word.proofs.Bits.{zero-bit, one-shl, bit-test}
 use Rattle.word.proofs.Words.{bit-word, word-of-bits}
 use Rattle.side.specs.Side.{maskFor, rowHolds}
-use Rattle.side.specs.Check.{wordInside, Rising}
+use Rattle.side.specs.Check.{Rising}
 use Rattle.side.specs.Row.{Row, Inside}
-use Rattle.side.proofs.Words.{inside-bit}
+use Rattle.side.proofs.Words.{bit-in}
 
 mask-at : (w : ℕ) (xs ms : List ℕ) (i : ℕ) → i < length xs → i < length ms → getD xs i 0 ≡ w → ((j : ℕ) → j < i → getD xs j 0 ≢ w) → maskFor w xs ms ≡ getD ms i 0
 unfolding maskFor
@@ -84,14 +83,10 @@ module _ (idx masks : List ℕ) (from to : ℕ) (h : from ≤ to) (hi : to ≤ l
 
   -- words inside the columns hold no column past them
   pub row-inside : (ncols : ℕ) → Inside ncols idx masks from to → (c : ℕ) → T (rowHolds idx masks from to c) → c < ncols
-  unfolding wordInside
   row-inside ncols ins c t =
       let f : (k : ℕ) × (from ≤ k) × (k < to) × (getD idx k 0 ≡ c / 64) = found c t in
       let b : T (bitAt (getD masks (f .0) 0) (c % 64)) = subst (λ (x : Bool). T x) (holds-at (f .0) c (f .1) (f .2) (f .3)) t in
-      let w : ℕ = getD idx (f .0) 0 in
-      let m : ℕ = getD masks (f .0) 0 in
-      let a : T (ltb (64 * w + c % 64) ncols || not (bitAt m (c % 64))) = every-e 64 (λ b. ltb (64 * w + b) ncols || not (bitAt m b)) (T-of (wordInside ncols w m) (ins (f .0) (f .1) (f .2))) (c % 64) (omega arith) in
-      omega (arith, inside-bit ncols w m (c % 64) a b, f .3)
+      omega (arith, bit-in ncols (getD idx (f .0) 0) (getD masks (f .0) 0) (ins (f .0) (f .1) (f .2)) (c % 64) (omega arith) b, f .3)
 
   -- the test of a column whose word stands at k
   pub contains-at : (k c : ℕ) → from ≤ k → k < to → getD idx k 0 ≡ c / 64 → not (eqb (bitAnd (getD masks k 0) ((1 * 2 ^ (c % 64)) % 2 ^ 64)) 0) ≡ rowHolds idx masks from to c
@@ -128,3 +123,51 @@ module _ (idx masks : List ℕ) (from to : ℕ) (h : from ≤ to) (hi : to ≤ l
           let e : getD idx k 0 ≡ (64 * getD idx k 0 + j) / 64 = omega arith in
           let f : (64 * getD idx k 0 + j) % 64 ≡ j = omega arith in
           holds-at k (64 * getD idx k 0 + j) a b e ∙ ap (bitAt (getD masks k 0)) f
+
+-- ---- a row of no word, and of one word more
+
+module _ (idx masks : List ℕ) (from : ℕ) where
+  pub holds-none : (c : ℕ) → from ≤ length idx → from ≤ length masks → rowHolds idx masks from from c ≡ false
+  holds-none c hi hm = holds-not idx masks from from (le-refl from) hi hm (λ j k a b d. omega arith) c (λ k a b. absurd (omega arith))
+
+  module _ (k : ℕ) (h : from ≤ k) (hi : k < length idx) (hm : k < length masks) (ris : Rising idx from (k + 1)) where
+    before : Rising idx from k
+    before i j a b d = ris i j a b (omega arith)
+
+    pub holds-next : (c : ℕ) → rowHolds idx masks from (k + 1) c ≡ (rowHolds idx masks from k c || (eqb (c / 64) (getD idx k 0) && bitAt (getD masks k 0) (c % 64)))
+    holds-next c = go (eq-or-ne (c / 64) (getD idx k 0))
+      where
+        longer : (j : ℕ) → from ≤ j → j < k + 1 → getD idx j 0 ≡ c / 64 → rowHolds idx masks from (k + 1) c ≡ bitAt (getD masks j 0) (c % 64)
+        longer j a b e = holds-at idx masks from (k + 1) (omega arith) (omega arith) (omega arith) ris j c a b e
+
+        shorter : (j : ℕ) → from ≤ j → j < k → getD idx j 0 ≡ c / 64 → rowHolds idx masks from k c ≡ bitAt (getD masks j 0) (c % 64)
+        shorter j a b e = holds-at idx masks from k h (omega arith) (omega arith) before j c a b e
+
+        same : (c / 64 ≡ getD idx k 0 → ⊥) → rowHolds idx masks from (k + 1) c ≡ rowHolds idx masks from k c
+        same n = bool-ext (rowHolds idx masks from (k + 1) c) (rowHolds idx masks from k c) there back
+          where
+            there : T (rowHolds idx masks from (k + 1) c) → T (rowHolds idx masks from k c)
+            there t =
+                let f : (j : ℕ) × (from ≤ j) × (j < k + 1) × (getD idx j 0 ≡ c / 64) = found idx masks from (k + 1) (omega arith) (omega arith) (omega arith) ris c t in
+                part f (eq-or-ne (f .0) k)
+              where
+                part : (f : (j : ℕ) × (from ≤ j) × (j < k + 1) × (getD idx j 0 ≡ c / 64)) → (f .0 ≡ k) ⊎ (f .0 ≡ k → ⊥) → T (rowHolds idx masks from k c)
+                part f (inl e) = absurd (n (sym (f .3) ∙ ap (λ (x : ℕ). getD idx x 0) e))
+                part f (inr d) = subst (λ (b : Bool). T b) (longer (f .0) (f .1) (f .2) (f .3) ∙ sym (shorter (f .0) (f .1) (omega (arith, f .2)) (f .3))) t
+
+            back : T (rowHolds idx masks from k c) → T (rowHolds idx masks from (k + 1) c)
+            back t =
+                let f : (j : ℕ) × (from ≤ j) × (j < k) × (getD idx j 0 ≡ c / 64) = found idx masks from k h (omega arith) (omega arith) before c t in
+                subst (λ (b : Bool). T b) (shorter (f .0) (f .1) (f .2) (f .3) ∙ sym (longer (f .0) (f .1) (omega (arith, f .2)) (f .3))) t
+
+        go : (c / 64 ≡ getD idx k 0) ⊎ (c / 64 ≡ getD idx k 0 → ⊥)
+            → rowHolds idx masks from (k + 1) c ≡ (rowHolds idx masks from k c || (eqb (c / 64) (getD idx k 0) && bitAt (getD masks k 0) (c % 64)))
+        go (inl e) =
+            longer k h (omega arith) (sym e)
+            ∙ sym
+            (ap₂ (λ (s t : Bool). s || (t && bitAt (getD masks k 0) (c % 64)))
+            (holds-not idx masks from k h (omega arith) (omega arith) before c (λ j a b f. omega (arith, ris j k a b (omega arith))))
+            (eq-eqb (c / 64) (getD idx k 0) e))
+        go (inr n) =
+            same n
+            ∙ sym (ap (λ (t : Bool). rowHolds idx masks from k c || (t && bitAt (getD masks k 0) (c % 64))) (ne-eqb (c / 64) (getD idx k 0) n) ∙ or-false (rowHolds idx masks from k c))

@@ -7,19 +7,19 @@ use Prim.Native.Nat.{ℕ, zero, suc, _+_, _-_, _*_, _/_, _%_, _^_, _≤_, _<_}
 use native.Mathlib.Omega.{arith}
 use native.Mathlib.Nat.{le-refl, zero-add}
 use native.Mathlib.Numerals.{add-one}
-use lib.Dec.{T, ltb, lt→ltb}
+use lib.Dec.{T, ltb, lt→ltb, not-T}
 use lib.ListN.{length, getD, take, length-map, List·getD-eq-default}
 use lib.Seq.{slice, take-length, length-take-le, ext-getD, drop-nil}
 use Rattle.base.specs.Checks.{sideLimit, entryLimit}
-use Rattle.base.specs.Sets.{sumBelow, countBelow}
+use Rattle.base.specs.Sets.{sumBelow, countBelow, one-if}
 use Rattle.base.proofs.Bools.{T-true, or-l, or-r, decide, lt-or-le}
-use Rattle.base.proofs.Lists.{take-on, length-listFrom, getD-listFrom, rise-to}
+use Rattle.base.proofs.Lists.{take-on, length-listFrom, getD-listFrom, rise-to, step-of}
 use Rattle.base.proofs.Joins.{join-none, join-next, join-slice, join-up, join-length, join-count}
-use Rattle.base.proofs.Sets.{every-i, sum-zero, sum-suc, sum-append, sum-cong, sum-most, sum-le, count-le}
+use Rattle.base.proofs.Sets.{every-i, sum-zero, sum-suc, sum-append, sum-cong, sum-most, sum-le, count-le, sum-swap}
 use Rattle.word.specs.Bits.{bitAt, wordOf}
 use Rattle.word.proofs.Bits.{zero-bit}
 use Rattle.word.proofs.Words.{word-lt, bit-word}
-use Rattle.side.specs.Side.{rowWords, rowMasks, sideWords, sideMasks, sidePtr, pairCount, maskFor, rowHolds, sideHolds}
+use Rattle.side.specs.Side.{rowWords, rowMasks, sideWords, sideMasks, sidePtr, pairCount, maskFor, rowHolds, sideHolds, flip}
 use Rattle.side.specs.Check.{bitsIn, wordInside, IsRows, IsSide}
 use Rattle.side.specs.Row.{Row}
 use Rattle.side.proofs.Rows.{row-words, row-masks, row-count, words-row, words-le}
@@ -165,6 +165,10 @@ module _ (nrows ncols : ℕ) (ptr idx masks : List ℕ) (m : IsSide nrows ncols 
       ap (bitsIn masks 0) (sym (ok .ends))
       ∙ count-to ncols held idx masks lo nrows (ok .starts) (ok .rises) (end-in nrows ptr idx masks ok) (end-le nrows ptr idx masks ok) own held-col nrows (le-refl nrows)
 
+-- turned round there are as many pairs
+pub pairs-flip : (nrows ncols : ℕ) (s : ℕ → ℕ → Bool) → pairCount ncols nrows (flip s) ≡ pairCount nrows ncols s
+pairs-flip nrows ncols s = sym (sum-swap nrows ncols (λ r c. one-if (s r c)))
+
 -- ---- the side of a set of pairs
 
 module _ (nrows ncols : ℕ) (s : ℕ → ℕ → Bool) (small : (r c : ℕ) → r < nrows → T (s r c) → c < ncols) where
@@ -231,17 +235,7 @@ module _ (nrows ncols : ℕ) (s : ℕ → ℕ → Bool) (small : (r c : ℕ) →
     where
       -- every word is in a row
       row-of : (k : ℕ) → k < length (sideWords nrows ncols s) → (r : ℕ) × (r < nrows) × (length (sideWords r ncols s) ≤ k) × (k < length (sideWords (r + 1) ncols s))
-      row-of k h = go nrows (le-refl nrows) h
-        where
-          go : (n : ℕ) → n ≤ nrows → k < length (sideWords n ncols s) → (r : ℕ) × (r < nrows) × (length (sideWords r ncols s) ≤ k) × (k < length (sideWords (r + 1) ncols s))
-          go zero u l = absurd (omega (arith, ap length (join-none F)))
-          go (suc n) u l = here (lt-or-le k (length (sideWords n ncols s))) (go n (omega arith))
-            where
-              here : (k < length (sideWords n ncols s)) ⊎ (length (sideWords n ncols s) ≤ k)
-                  → (k < length (sideWords n ncols s) → (r : ℕ) × (r < nrows) × (length (sideWords r ncols s) ≤ k) × (k < length (sideWords (r + 1) ncols s)))
-                  → (r : ℕ) × (r < nrows) × (length (sideWords r ncols s) ≤ k) × (k < length (sideWords (r + 1) ncols s))
-              here (inl a) ih = ih a
-              here (inr a) ih = (n, omega arith, a, subst (λ (x : ℕ). k < length (sideWords x ncols s)) (sym (add-one n)) l)
+      row-of k h = step-of (λ r. length (sideWords r ncols s)) nrows k (ap length (join-none F)) h
 
       fit : (k r : ℕ) → r < nrows → getD (sideMasks nrows ncols s) k 0 ≡ wordOf (s r) (getD (sideWords nrows ncols s) k 0) → wordInside ncols (getD (sideWords nrows ncols s) k 0) (getD (sideMasks nrows ncols s) k 0) ≡ true
       fit k r h e = T-true _ (every-i 64 (λ b. ltb (64 * w + b) ncols || not (bitAt (getD (sideMasks nrows ncols s) k 0) b)) (λ b l. bit b l (decide (bitAt (getD (sideMasks nrows ncols s) k 0) b))))
@@ -251,8 +245,4 @@ module _ (nrows ncols : ℕ) (s : ℕ → ℕ → Bool) (small : (r c : ℕ) →
 
           bit : (b : ℕ) → b < 64 → T (bitAt (getD (sideMasks nrows ncols s) k 0) b) ⊎ (T (bitAt (getD (sideMasks nrows ncols s) k 0) b) → ⊥) → T (ltb (64 * w + b) ncols || not (bitAt (getD (sideMasks nrows ncols s) k 0) b))
           bit b l (inl t) = or-l (ltb (64 * w + b) ncols) _ (lt→ltb _ _ (small r (64 * w + b) h (subst (λ (x : Bool). T x) (ap (λ (x : ℕ). bitAt x b) e ∙ bit-word (s r) 64 (64 * w) b l) t)))
-          bit b l (inr f) = or-r (ltb (64 * w + b) ncols) _ (none (bitAt (getD (sideMasks nrows ncols s) k 0) b) f)
-            where
-              none : (t : Bool) → (T t → ⊥) → T (not t)
-              none true f = absurd (f tt)
-              none false f = tt
+          bit b l (inr f) = or-r (ltb (64 * w + b) ncols) _ (not-T (bitAt (getD (sideMasks nrows ncols s) k 0) b) f)

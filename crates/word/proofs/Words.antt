@@ -12,7 +12,7 @@ use lib.Dec.{T, eqb, ltb, eqb→eq}
 use lib.Pow.{pow-mono, pow-lt, pow-pos}
 use Rattle.base.specs.Sets.{one-if, adding, anyBelow, sumBelow, countBelow}
 use Rattle.base.proofs.Bools.{bool-ext, decide, T-false, not-T-of, lt-or-le, eqb-swap, or-false}
-use Rattle.base.proofs.Sets.{any-i, any-e, any-none, sum-append, count-cong}
+use Rattle.base.proofs.Sets.{any-i, any-e, any-none, sum-append, count-cong, any-cong, any-or}
 use Rattle.word.specs.Bits.{bitAt, wordFrom, wordOf}
 use Rattle.word.proofs.Bits.{bit-zero, bit-suc, bit-or, bit-and, bit-xor, bit-not, bit-pow, zero-bit, ones-count}
 
@@ -119,6 +119,13 @@ word-empty k (suc w) h =
     let r : (j : ℕ) × (j < k) × T (bitAt (suc w) j) = some-bit k (suc w) h (λ e. omega arith) in
     ap not (ne-eqb (suc w) 0 (λ e. omega arith))
     ∙ sym (bool-ext (anyBelow k (bitAt (suc w))) true (λ t. tt) (λ t. any-i k (bitAt (suc w)) (r .0) (r .1) (r .2)))
+
+-- two words together are 0 exactly where both are
+pub or-empty : (k a b : ℕ) → a < 2 ^ k → b < 2 ^ k → not (eqb (bitOr a b) 0) ≡ (not (eqb a 0) || not (eqb b 0))
+or-empty k a b ha hb =
+    word-empty k (bitOr a b) (or-lt k a b ha hb)
+    ∙ any-cong k (bitAt (bitOr a b)) (λ i. bitAt a i || bitAt b i) (λ i h. bit-or a b i)
+    ∙ any-or k (bitAt a) (bitAt b) ∙ sym (ap₂ _||_ (word-empty k a ha) (word-empty k b hb))
 
 -- ---- operations on words that work bit by bit
 

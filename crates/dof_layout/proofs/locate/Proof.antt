@@ -11,7 +11,7 @@ use Rattle.base.proofs.Checks.{on-accepted, on-refused}
 use Rattle.dof_layout.specs.Layout.{startOf, totalOf, inBlock, blockOf, layoutCheck, IsLayout}
 use Rattle.dof_layout.specs.Answers.{addressOf}
 use Rattle.dof_layout.specs.declared.Located.{Located}
-use Rattle.dof_layout.proofs.Layouts.{start-zero, total-at, offsets-count, block-holds, block-from, accepted-layout}
+use Rattle.dof_layout.proofs.Layouts.{start-zero, total-at, offsets-count, block-holds, block-from, accepted-layout, total-is}
 use borrow.Author.Needs.{needs}
 use Rattle.dof_layout.proofs.locate.Statement.{statement}
 use Rattle.dof_layout.proofs.locate.Tie as tie
@@ -34,7 +34,7 @@ layout c = accepted-layout _ _ _ _ _ (ok c)
 
 -- the last offset is the total
 total : (c : tie.After-enum-told) → getD (c .before .before .before .before .before .before .before .before .args .offsets .now) (length (c .before .before .before .before .before .before .before .before .args .components .now)) 0 ≡ totalOf (c .before .before .before .before .before .before .before .before .args .components .now)
-total c = total-at _ _ _ (layout c .running) (omega arith)
+total c = total-is _ _ (layout c .running)
 
 mul-if1 : tie.Need-mul-if1
 mul-if1 c = search needs

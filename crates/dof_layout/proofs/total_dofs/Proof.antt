@@ -6,7 +6,7 @@ use Rattle.base.specs.declared.Checked.{Checked}
 use Rattle.base.specs.declared.Counted.{Counted}
 use Rattle.base.proofs.Checks.{on-accepted, on-refused}
 use Rattle.dof_layout.specs.Layout.{totalOf, layoutCheck, IsLayout}
-use Rattle.dof_layout.proofs.Layouts.{total-at, offsets-count, accepted-layout}
+use Rattle.dof_layout.proofs.Layouts.{offsets-count, accepted-layout, total-is}
 use borrow.Author.Needs.{needs}
 use Rattle.dof_layout.proofs.total_dofs.Statement.{statement}
 use Rattle.dof_layout.proofs.total_dofs.Tie as tie
@@ -29,7 +29,7 @@ layout c = accepted-layout _ _ _ _ _ (ok c)
 
 -- the last offset is the total
 total : (c : tie.After-enum-told) → getD (c .before .before .before .before .before .before .before .before .args .offsets .now) (length (c .before .before .before .before .before .before .before .before .args .components .now)) 0 ≡ totalOf (c .before .before .before .before .before .before .before .before .args .components .now)
-total c = total-at _ _ _ (layout c .running) (omega arith)
+total c = total-is _ _ (layout c .running)
 
 mul-t10 : tie.Need-mul-t10
 mul-t10 c = search needs

@@ -10,9 +10,8 @@ use Rattle.base.specs.Checks.{wrongLength, checksBelow}
 use Rattle.base.specs.declared.Checked.{Checked}
 use Rattle.base.proofs.Checks.{pass, stop, length-pass, length-stop, group-pass, group-stop, last-pass, last-stop}
 use Rattle.dof_layout.specs.Layout.{totalOf, layoutCheck, IsLayout}
-use Rattle.dof_layout.proofs.Layouts.{total-at, offsets-count, accepted-layout}
+use Rattle.dof_layout.proofs.Layouts.{offsets-count, accepted-layout, none-empty, total-is}
 use Rattle.field_region.specs.Owners.{ownerCheck, ownersCheck}
-use Rattle.field_region.proofs.Owning.{none-empty}
 use borrow.Author.Needs.{needs}
 use Rattle.field_region.proofs.check_owners.Statement.{statement}
 use Rattle.field_region.proofs.check_owners.Tie as tie
@@ -35,7 +34,7 @@ layout c = accepted-layout _ _ _ _ _ (ok c)
 
 -- the last offset is the total
 total : (c : tie.After-enum-told) → getD (c .before .before .before .before .before .before .before .before .before .before .args .offsets .now) (length (c .before .before .before .before .before .before .before .before .before .before .args .components .now)) 0 ≡ totalOf (c .before .before .before .before .before .before .before .before .before .before .args .components .now)
-total c = total-at _ _ _ (layout c .running) (omega arith)
+total c = total-is _ _ (layout c .running)
 
 mul-total : tie.Need-mul-total
 mul-total c = search needs

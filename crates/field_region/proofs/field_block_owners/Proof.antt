@@ -4,10 +4,11 @@ use Rattle.base.specs.declared.Checked.{Checked}
 use Rattle.base.specs.declared.Counted.{Counted}
 use Rattle.base.proofs.Checks.{on-accepted, on-refused, kept}
 use Rattle.field_region.specs.Owners.{ownersCheck}
-use Rattle.field_region.proofs.Owning.{none-empty, accepted-owners}
+use Rattle.field_region.proofs.Owning.{accepted-owners}
 use borrow.Author.Needs.{needs}
 use Rattle.field_region.proofs.field_block_owners.Statement.{statement}
 use Rattle.field_region.proofs.field_block_owners.Tie as tie
+use Rattle.dof_layout.proofs.Layouts.{none-empty}
 
 check-owners-requires : tie.Need-check-owners-requires
 check-owners-requires c κs = search needs

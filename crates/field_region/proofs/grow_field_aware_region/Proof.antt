@@ -9,17 +9,18 @@ use lib.Seq.{length-take-le}
 use Rattle.base.specs.Sets.{countBelow}
 use Rattle.base.specs.declared.Checked.{Checked}
 use Rattle.base.proofs.Checks.{on-accepted, on-refused, kept}
+use Rattle.base.proofs.Lists.{part-left, part-room, part-take, part-needed, part-long}
 use Rattle.mask.specs.Mask.{inMask, wordsFor}
 use Rattle.dof_layout.specs.Layout.{startOf, totalOf}
 use Rattle.dof_layout.specs.Answers.{squareCheck}
+use Rattle.dof_layout.proofs.Layouts.{none-empty}
 use Rattle.side.specs.Side.{sideHolds}
 use Rattle.dual_topology.specs.Check.{topologyCheck}
 use Rattle.graph.specs.Network.{Network, fieldNetwork, regionWords, frontierWords}
-use Rattle.growth.proofs.Lent.{part-left, part-room, part-take, part-needed, part-long, region-length, frontier-length, region-is, region-count, scratch-zero}
+use Rattle.growth.proofs.Lent.{region-length, frontier-length, region-is, region-count, scratch-zero}
 use Rattle.field_region.specs.Growth.{fieldGrowCheck}
 use Rattle.field_region.specs.declared.FieldGrown.{FieldGrown}
-use Rattle.field_region.proofs.Owning.{none-empty}
-use Rattle.field_region.proofs.Growing.{block-count, mask-as, count-as}
+use Rattle.field_region.proofs.Growing.{block-count}
 use Rattle.field_region.proofs.Accepted.{Accepts, accepted-growth, stats-are}
 use Rattle.field_region.proofs.grow_field_aware_region.Statement.{statement}
 use Rattle.field_region.proofs.grow_field_aware_region.Tie as tie
@@ -28,6 +29,7 @@ use Rattle.field_region.proofs.inner.count_blocks.Reads as count-blocks
 use Rattle.field_region.proofs.inner.grow_blocks.Reads as grow-blocks-reads
 use Rattle.mask.proofs.inner.count.Reads as count-reads
 use Rattle.mask.proofs.inner.words_for.Reads as words-for-reads
+use Rattle.mask.proofs.Masks.{mask-as, count-as}
 
 -- in this arm the checks accept
 module _ (c : tie.After-enum-told) where

@@ -9,11 +9,12 @@ use lib.Seq.{length-take-le}
 use Rattle.base.specs.Sets.{countBelow}
 use Rattle.base.specs.declared.Checked.{Checked}
 use Rattle.base.proofs.Checks.{on-accepted, on-refused, kept}
+use Rattle.base.proofs.Lists.{part-left, part-room, part-take, part-needed, part-long}
 use Rattle.mask.specs.Mask.{inMask, wordsFor, IsMask}
 use Rattle.side.specs.Side.{sideHolds}
 use Rattle.dual_topology.specs.Check.{topologyCheck}
 use Rattle.graph.specs.Network.{Network, plainNetwork, regionWords, frontierWords}
-use Rattle.growth.proofs.Lent.{part-left, part-room, part-take, part-needed, part-long, region-length, frontier-length, region-is, scratch-zero}
+use Rattle.growth.proofs.Lent.{region-length, frontier-length, region-is, scratch-zero}
 use Rattle.region.specs.Growth.{growCheck}
 use Rattle.region.specs.declared.RegionGrown.{RegionGrown}
 use Rattle.region.proofs.Accepted.{Accepts, accepted-growth, stats-are}

@@ -13,9 +13,10 @@ use Rattle.word.proofs.Turns.{none-turn, some-turn}
 use Rattle.mask.specs.Mask.{inMask, maskWords, IsMask}
 use Rattle.mask.specs.Answers.{withRange}
 use Rattle.mask.proofs.Masks.{mask-is, is-length}
+use Rattle.mask.proofs.Stores.{inRange, range-bits, range-ahead}
 use Rattle.dof_layout.specs.Layout.{startOf, totalOf}
-use Rattle.dof_layout.proofs.Layouts.{total-at, offsets-count, start-mono}
-use Rattle.field_region.proofs.Closing.{inRange, range-bits, range-ahead, closedTo, closing-none, closing-take, closing-leave, closing-all}
+use Rattle.dof_layout.proofs.Layouts.{total-at, offsets-count, start-mono, total-is}
+use Rattle.field_region.proofs.Closing.{closedTo, closing-none, closing-take, closing-leave, closing-all}
 use borrow.Author.Needs.{needs}
 use Rattle.field_region.proofs.inner.close_in_place.Statement.{statement}
 use Rattle.field_region.proofs.inner.close_in_place.Tie as tie
@@ -115,7 +116,7 @@ add-range-requires c κs =
     let o = c .before .before .before .before .before .before .before .before .before .before .before .blocks2 in
     let l = c .before .before .before .before .before .before .loop in
     let cs = s .args .components .now in
-    let t : getD (s .args .offsets .now) (length cs) 0 ≡ totalOf cs = total-at _ cs (length cs) (s .pre .0) (omega arith) in
+    let t : getD (s .args .offsets .now) (length cs) 0 ≡ totalOf cs = total-is _ cs (s .pre .0) in
     let m : IsMask (totalOf cs) (l .words) = subst (IsMask (totalOf cs)) (sym (l .inv .1 ∙ o .inv .2)) (mask-is (totalOf cs) (closedTo cs (inMask (s .args .words .now)) (o .b)) (s .pre .1)) in
     (subst (λ (n : ℕ). IsMask n (l .words)) (sym t) m, omega (arith, within (c .before .before .before .before .before .before .before .before)))
 
@@ -133,7 +134,7 @@ blocks2-again-2 c =
     let hi : ℕ = c .before .before .before .before .before .before .before .bits-below .result in
     let lo : ℕ = c .before .before .before .before .before .before .bits-below2 .result in
     let h : o .b < length cs = c .before .before .before .before .before .before .before .before .before .before .before .before .before .blocks2-test .taken in
-    let t : getD (s .args .offsets .now) (length cs) 0 ≡ totalOf cs = total-at _ cs (length cs) (s .pre .0) (omega arith) in
+    let t : getD (s .args .offsets .now) (length cs) 0 ≡ totalOf cs = total-is _ cs (s .pre .0) in
     let r = some-turn (inRange (l .words) st en) (l .w) (bitAnd (getD (l .words) (l .w) 0) (bitAnd hi (2 ^ 64 - 1 - lo))) (range-bits (l .words) st en (l .w) hi lo (c .before .before .before .before .before .before .before .bits-below .ensures) (c .before .before .before .before .before .before .bits-below2 .ensures))
     (lt-of-le-of-lt (and-le-l (getD (l .words) (l .w) 0) (bitAnd hi (2 ^ 64 - 1 - lo))) (c .before .before .before .before .before .slice-known2 .given (l .w) .fits)) (c .before .before .before .before .if1 .taken) in (
       omega arith,

@@ -6,11 +6,11 @@ use Prim.Native.Nat.{ℕ, _-_, _≤_}
 use native.Mathlib.Omega.{arith}
 use lib.ListN.{length}
 use Rattle.base.specs.Sets.{countBelow, one-if}
-use Rattle.base.proofs.Sets.{sum-zero, count-le}
+use Rattle.base.proofs.Sets.{sum-zero, count-le, count-in, count-out}
 use Rattle.mask.specs.Mask.{inMask, IsMask}
 use Rattle.dof_layout.specs.Layout.{startOf}
-use Rattle.dof_layout.proofs.Layouts.{total-at, offsets-count}
-use Rattle.field_region.proofs.Growing.{total-is, start-below, count-in, count-out}
+use Rattle.dof_layout.proofs.Layouts.{total-at, offsets-count, total-is}
+use Rattle.field_region.proofs.Growing.{start-below}
 use borrow.Author.Needs.{needs}
 use Rattle.field_region.proofs.inner.count_blocks.Statement.{statement}
 use Rattle.field_region.proofs.inner.count_blocks.Tie as tie

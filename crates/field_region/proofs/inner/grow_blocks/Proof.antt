@@ -9,20 +9,19 @@ use lib.ListN.{length, getD}
 use Rattle.base.proofs.Checks.{call-no, call-yes}
 use Rattle.base.specs.Checks.{sideLimit}
 use Rattle.mask.specs.Mask.{IsMask, inMask, maskWords, wordsFor}
-use Rattle.mask.proofs.Masks.{mask-length}
+use Rattle.mask.proofs.Masks.{mask-length, is-of}
 use Rattle.dof_layout.specs.Layout.{totalOf, blockOf}
-use Rattle.dof_layout.proofs.Layouts.{offsets-count}
+use Rattle.dof_layout.proofs.Layouts.{offsets-count, total-is}
 use Rattle.side.specs.Side.{sideHolds}
 use Rattle.dual_topology.specs.Check.{IsTopology}
 use Rattle.graph.specs.Network.{Network, closed, visited, regionWords, frontierWords}
 use Rattle.growth.specs.Visits.{Small}
 use Rattle.growth.proofs.Visits.{visits-small}
-use Rattle.growth.proofs.Expansion.{is-of}
 use Rattle.growth.proofs.Growing.{Growing, region-mask, frontier-mask, growing-first, counted, growing-turn, growing-last}
 use Rattle.field_region.specs.Closure.{closedWords}
 use Rattle.field_region.specs.Growth.{blocksGrownBy}
 use Rattle.field_region.specs.declared.BlocksGrown.{BlocksGrown}
-use Rattle.field_region.proofs.Growing.{network, network-is, network-whole, closed-here, closed-after, total-is, closed-count, blocks-grown}
+use Rattle.field_region.proofs.Growing.{network, network-is, network-whole, closed-here, closed-after, closed-count, blocks-grown}
 use borrow.Author.Needs.{needs}
 use Rattle.field_region.proofs.inner.grow_blocks.Statement.{statement}
 use Rattle.field_region.proofs.inner.grow_blocks.Tie as tie

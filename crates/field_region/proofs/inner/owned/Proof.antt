@@ -6,8 +6,7 @@ use borrow.Author.Tests.{eq-eqb}
 use lib.Dec.{T, eqb, eqb→eq}
 use lib.ListN.{getD}
 use Rattle.base.proofs.Bools.{T-of}
-use Rattle.base.proofs.Sets.{below-next}
-use Rattle.field_region.proofs.Owning.{every-from, not-every}
+use Rattle.base.proofs.Sets.{below-next, every-from, not-every}
 use borrow.Author.Needs.{needs}
 use Rattle.field_region.proofs.inner.owned.Statement.{statement}
 use Rattle.field_region.proofs.inner.owned.Tie as tie

@@ -3,10 +3,10 @@ use mathlib.Core.Path.{sym, ap, _∙_}
 use Prim.Native.Nat.{_+_, _-_}
 use native.Mathlib.Omega.{arith}
 use lib.ListN.{length}
-use Rattle.mask.proofs.Masks.{mask-length}
+use Rattle.mask.proofs.Masks.{mask-length, is-of}
 use Rattle.mask.proofs.Nexts.{next-is}
 use Rattle.side.specs.Side.{sideHolds}
-use Rattle.growth.proofs.Expansion.{is-of, Visiting, visit-first, visit-turn, visit-last, nodes-fit, row-words-fit, column-words-fit, bits-fit}
+use Rattle.growth.proofs.Expansion.{Visiting, visit-first, visit-turn, visit-last, nodes-fit, row-words-fit, column-words-fit, bits-fit}
 use borrow.Author.Needs.{needs}
 use Rattle.growth.proofs.inner.expand.Statement.{statement}
 use Rattle.growth.proofs.inner.expand.Tie as tie

@@ -5,14 +5,13 @@ use Prim.Native.Nat.{suc, _-_}
 use native.Mathlib.Omega.{arith}
 use lib.ListN.{length}
 use Rattle.mask.specs.Mask.{IsMask, inMask}
-use Rattle.mask.proofs.Masks.{mask-length}
+use Rattle.mask.proofs.Masks.{mask-length, is-of}
 use Rattle.side.specs.Side.{sideHolds}
 use Rattle.base.proofs.Checks.{call-no, call-yes}
 use Rattle.graph.specs.Network.{plainNetwork, visited}
 use Rattle.graph.proofs.Networks.{plain-whole}
 use Rattle.growth.specs.Visits.{Small}
 use Rattle.growth.proofs.Visits.{visits-small}
-use Rattle.growth.proofs.Expansion.{is-of}
 use Rattle.growth.proofs.Growing.{Growing, region-mask, frontier-mask, growing-first, counted, growing-turn, growing-last, alone}
 use borrow.Author.Needs.{needs}
 use Rattle.growth.proofs.inner.grow.Statement.{statement}

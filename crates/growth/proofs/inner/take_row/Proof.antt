@@ -14,7 +14,8 @@ use Rattle.mask.proofs.Masks.{is-length}
 use Rattle.side.specs.Check.{bitsIn}
 use Rattle.side.proofs.Sides.{bits-none, bits-next, bits-le}
 use Rattle.side.proofs.AtRow.{at-up, at-words, at-masks, at-length, at-count}
-use Rattle.growth.proofs.Takes.{inside-word, taking, join-start, join-turn}
+use Rattle.side.proofs.Words.{inside-word}
+use Rattle.growth.proofs.Takes.{taking, join-start, join-turn}
 use Rattle.growth.proofs.inner.take_row.Statement.{statement}
 use Rattle.growth.proofs.inner.take_row.Tie as tie
 
