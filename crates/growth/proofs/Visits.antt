@@ -67,3 +67,7 @@ module _ (n : ℕ) (ptr idx masks ptr2 idx2 masks2 : List ℕ) (m : IsTopology n
         few-column-words = omega (arith, over-le n p v, column-words-within);
         few-bits = omega (arith, over-le n p (λ i. a i + b i), sum-add n a b, bits-within n ptr idx masks (m .rows), column-bits-within);
       }
+
+  -- no more row words than are stored
+  pub row-words-stored : (p : ℕ → Bool) → visitsOf n rows p .«row_words» ≤ length masks
+  row-words-stored p = omega (arith, over-le n p (λ i. length (rowWords n (rows i))), words-stored n ptr idx masks (m .rows))

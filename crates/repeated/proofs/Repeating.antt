@@ -14,7 +14,8 @@ use Rattle.mask.proofs.Masks.{mask-length}
 use Rattle.graph.specs.Network.{Network, regionWords, frontierWords}
 use Rattle.growth.specs.Visits.{grownBy}
 use Rattle.growth.specs.declared.Grown.{Grown}
-use Rattle.growth.proofs.Lent.{part-left, part-long, region-length, frontier-length}
+use Rattle.base.proofs.Lists.{part-left, part-long}
+use Rattle.growth.proofs.Lent.{region-length, frontier-length}
 use Rattle.region.specs.Growth.{growAnswer}
 use Rattle.region.specs.declared.RegionGrown.{RegionGrown}
 use Rattle.region.specs.declared.AbtmRegionGrowthStats.{AbtmRegionGrowthStats}
