@@ -30,7 +30,8 @@ fn enough<O>(work: &mut impl FnMut(u64) -> O, rest: Duration) -> u64 {
         if gained >= rest.max(SAMPLE_TIME) {
             break;
         }
-        if gained > rest / 16 {
+        // A smaller gain may be the rest's own difference from call to call.
+        if gained > rest / 2 {
             let times = 1.25 * rest.as_secs_f64() / gained.as_secs_f64();
             return (pieces as f64 * times).ceil() as u64;
         }
