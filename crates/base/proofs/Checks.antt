@@ -53,6 +53,10 @@ pub group-stop : (g next : Checked) (q : Refusal) → g ≡ Refused q → Refuse
 unfolding _then_
 group-stop g next q e = ap (λ (x : Checked). x then next) (sym e)
 
+-- an accepted group leaves the next to decide
+pub then-next : (g next : Checked) → g ≡ Accepted → (g then next) ≡ next
+then-next g next e = sym (group-pass g next next e refl)
+
 -- what a call's answer r says of what its contract equates it with
 pub call-no : (r b : Bool) → r ≡ b → not r ≡ true → b ≡ false
 call-no r b e h = sym e ∙ not-true r h
@@ -101,6 +105,11 @@ checks-none check = refl
 pub checks-next : (k : ℕ) (check : ℕ → Checked) → checksBelow k check ≡ Accepted → check k ≡ Accepted → checksBelow (k + 1) check ≡ Accepted
 unfolding checksBelow _then_
 checks-next k check e h = ap (λ (n : ℕ). checksBelow n check) (add-one k) ∙ ap (λ (x : Checked). x then check k) e ∙ h
+
+pub checks-all : (n : ℕ) (check : ℕ → Checked) → ((k : ℕ) → k < n → check k ≡ Accepted) → checksBelow n check ≡ Accepted
+checks-all zero check h = checks-none check
+checks-all (suc n) check h =
+    ap (λ (k : ℕ). checksBelow k check) (sym (add-one n)) ∙ checks-next n check (checks-all n check (λ k l. h k (omega arith))) (h n (omega arith))
 
 -- those before k pass and k refuses
 pub checks-stop : (n k : ℕ) (check : ℕ → Checked) (r : Refusal) → k < n → checksBelow k check ≡ Accepted → check k ≡ Refused r → checksBelow n check ≡ Refused r

@@ -7,11 +7,11 @@ use Prim.Native.Nat.{ℕ, zero, suc, _+_, _-_, _≤_, _<_}
 use native.Mathlib.Nat.{zero-add, add-zero, le-refl, le-of-suc-le-suc, not-suc-le-zero, le-of-lt, sub-zero, zero-sub, suc-sub-suc}
 use native.Mathlib.Numerals.{add-one}
 use native.Mathlib.Omega.{arith}
-use borrow.Author.Tests.{eq-eqb, eqb-true}
-use lib.Dec.{T, eqb, eqb→eq}
-use lib.ListN.{length, getD, set, take, drop, replicate, drop-of-length-le, length-append, length-take, length-drop, length-replicate, take-append-drop, replicate-append-replicate}
-use lib.Seq.{slice, drop-cons, take-suc, take-take, length-take-le, set-at, append-snoc, take-all, drop-length, getD-drop, getD-take, length-slice, slice-empty, drop-append-le, ext-getD, take-append-seam, take-nil}
-use Rattle.base.specs.Lists.{every, pairwise, isIn, sameList, listFrom, written, over, overZeros, zeroed}
+use borrow.Author.Tests.{eq-eqb, eqb-true, leb-true, le-leb}
+use lib.Dec.{T, leb, eqb, eqb→eq}
+use lib.ListN.{length, getD, set, take, drop, replicate, List·getD-append, drop-of-length-le, length-append, length-take, length-drop, length-replicate, take-append-drop, replicate-append-replicate}
+use lib.Seq.{slice, drop-cons, take-suc, take-take, length-take-le, set-at, append-snoc, take-all, drop-length, getD-drop, getD-take, length-slice, slice-empty, drop-append-le, drop-append-add, drop-drop, ext-getD, take-append-seam, take-nil}
+use Rattle.base.specs.Lists.{every, pairwise, rising, isIn, sameList, listFrom, written, over, placed, overZeros, zeroed}
 use Rattle.base.proofs.Bools.{and-left, and-right, or-l, or-r, or-e, or-false, T-true, T-false, T-of, both-ways, lt-or-le}
 
 -- ---- a loop that tests a list from the front: the test of the whole list is the test of what is left of it
@@ -157,6 +157,31 @@ part-slice (suc f) (suc t) (x ∷ l) = ap (λ (n : ℕ). take n (drop f l)) (suc
 pub getD-slice : (f t : ℕ) (l : List ℕ) (i : ℕ) → f + i < t → getD (slice f t l) i 0 ≡ getD l (f + i) 0
 getD-slice f t l i h = getD-drop f (take t l) i 0 ∙ getD-take t l (f + i) 0 h
 
+-- a part that rises: its elements, and what is left of it from a later place on
+pub slice-rises : (f t : ℕ) (l : List ℕ) → t ≤ length l → rising (slice f t l) ≡ true → (i j : ℕ) → f ≤ i → i ≤ j → j < t → getD l i 0 ≤ getD l j 0
+slice-rises f t l h e i j a b u =
+    let long : length (slice f t l) ≡ t - f = length-slice f t l h in
+    let up : getD (slice f t l) (i - f) 0 ≤ getD (slice f t l) (j - f) 0 =
+    rise-to (slice f t l) (length (slice f t l) - 1) (λ r k. leb-true _ _ (pairwise-at leb 0 (slice f t l) r e (omega arith))) (i - f) (j - f) (omega arith) (omega arith) in
+    let ei : f + (i - f) ≡ i = omega arith in
+    let ej : f + (j - f) ≡ j = omega arith in
+    omega (
+      arith,
+      up,
+      getD-slice f t l (i - f) (omega arith) ∙ ap (λ (n : ℕ). getD l n 0) ei,
+      getD-slice f t l (j - f) (omega arith) ∙ ap (λ (n : ℕ). getD l n 0) ej,
+    )
+
+pub slice-later : (f e t : ℕ) (l : List ℕ) → t ≤ length l → f ≤ e → rising (slice f t l) ≡ true → rising (slice e t l) ≡ true
+slice-later f e t l h a r = pairwise-i leb 0 (slice e t l) each
+  where
+    each : (i : ℕ) → i + 1 < length (slice e t l) → leb (getD (slice e t l) i 0) (getD (slice e t l) (i + 1) 0) ≡ true
+    each i k =
+        let u : e + (i + 1) < t = omega (arith, length-slice e t l h) in
+        let up : getD (slice e t l) i 0 ≤ getD (slice e t l) (i + 1) 0 =
+        omega (arith, slice-rises f t l h r (e + i) (e + (i + 1)) (omega arith) (omega arith) u, getD-slice e t l i (omega arith), getD-slice e t l (i + 1) u) in
+        le-leb (getD (slice e t l) i 0) (getD (slice e t l) (i + 1) 0) up
+
 pub in-empty : (c : ℕ) (t : ℕ) (l : List ℕ) → isIn c (slice t t l) ≡ false
 unfolding isIn
 in-empty c t l = ap (isIn c) (slice-empty t l)
@@ -220,6 +245,14 @@ listFrom-append {A = A} f (suc a) b at =
     let s : suc a + b ≡ suc (a + b) = omega arith in
     let e : suc at + a ≡ at + suc a = omega arith in
     ap (λ (n : ℕ). listFrom f n at) s ∙ ap (λ (l : List A). f at ∷ l) (listFrom-append f a b (suc at) ∙ ap (λ (n : ℕ). listFrom f a (suc at) ++ listFrom f b n) e)
+
+-- from a later place on
+pub listFrom-shift : {A : Type 0} (f : ℕ → A) (k a at : ℕ) → listFrom f k (a + at) ≡ listFrom (λ i. f (a + i)) k at
+unfolding listFrom
+listFrom-shift f zero a at = refl
+listFrom-shift {A = A} f (suc k) a at =
+    let e : suc (a + at) ≡ a + suc at = omega arith in
+    ap (λ (l : List A). f (a + at) ∷ l) (ap (listFrom f k) e ∙ listFrom-shift f k a (suc at))
 
 -- ---- a loop that writes the list X over the front of a lent list o, one store a turn
 
@@ -314,3 +347,83 @@ at-head {A = A} l n x t d e =
       ap (λ (m : List A). getD m 0 d) (sym e ∙ drop-cons l n d h),
       ap (λ (k : ℕ). drop k l) (add-one n) ∙ ap (drop 1) (sym (drop-cons l n d h) ∙ e),
     )
+
+-- what stood in the first place makes no difference to an answer over it
+pub over-first : {A : Type 0} (X l : List A) (v : A) → 0 < length X → over X (set l 0 v) ≡ over X l
+over-first [] l v h = absurd (omega arith)
+over-first (x ∷ X) [] v h = refl
+over-first (x ∷ X) (y ∷ l) v h = refl
+
+-- ---- a list written from a place on
+
+module _ {A : Type 0} where
+  pub placed-none : (at : ℕ) (l : List A) → placed at [] l ≡ l
+  unfolding placed
+  placed-none at l = ap (λ (k : ℕ). take at l ++ drop k l) (add-zero at) ∙ take-append-drop at l
+
+  pub placed-length : (at : ℕ) (X l : List A) → at + length X ≤ length l → length (placed at X l) ≡ length l
+  unfolding placed
+  placed-length at X l h =
+      length-append (take at l) (X ++ drop (at + length X) l)
+      ∙ omega (arith, length-append X (drop (at + length X) l), length-take at l, length-drop (at + length X) l)
+
+  -- at the end of what stands already
+  pub placed-over : (Y X l : List A) → placed (length Y) X (over Y l) ≡ over (Y ++ X) l
+  unfolding placed
+  placed-over Y X l =
+      ap₂ (λ (a b : List A). a ++ (X ++ b)) (take-append-seam Y (drop (length Y) l)) (drop-append-add Y (drop (length Y) l) (length X) ∙ drop-drop (length X) (length Y) l)
+      ∙ sym (append-assoc Y X (drop (length Y + length X) l))
+      ∙ ap (λ (k : ℕ). (Y ++ X) ++ drop k l) (sym (length-append Y X))
+
+  -- one more element
+  pub placed-next : (at : ℕ) (X l : List A) (v d : A) → at + length X < length l → set (placed at X l) (at + length X) v ≡ placed at (X ++ (v ∷ [])) l
+  unfolding placed
+  placed-next at X l v d h =
+      let long : length (take at l ++ X) ≡ at + length X = length-append (take at l) X ∙ ap (λ (k : ℕ). k + length X) (length-take-le at l (omega arith)) in
+      let grown : at + length X + 1 ≡ at + length (X ++ (v ∷ [])) = omega (arith, length-append X (v ∷ [])) in
+      ap (λ (b : List A). set b (at + length X) v) (sym (append-assoc (take at l) X (drop (at + length X) l)) ∙ ap (λ (b : List A). (take at l ++ X) ++ b) (drop-cons l (at + length X) d h))
+      ∙ set-at (take at l ++ X) (getD l (at + length X) d) (drop (suc (at + length X)) l) v (at + length X) long
+      ∙ append-assoc (take at l) X (v ∷ drop (suc (at + length X)) l)
+      ∙ ap (λ (b : List A). take at l ++ b) (sym (append-assoc X (v ∷ []) (drop (suc (at + length X)) l)))
+      ∙ ap (λ (k : ℕ). take at l ++ ((X ++ (v ∷ [])) ++ drop k l)) (sym (add-one (at + length X)) ∙ grown)
+
+  -- more behind it
+  pub placed-more : (at : ℕ) (X Y l : List A) → at + length X ≤ length l → placed (at + length X) Y (placed at X l) ≡ placed at (X ++ Y) l
+  unfolding placed
+  placed-more at X Y l h =
+      let long : length (take at l ++ X) ≡ at + length X = length-append (take at l) X ∙ ap (λ (k : ℕ). k + length X) (length-take-le at l (omega arith)) in
+      let both : at + length X + length Y ≡ at + length (X ++ Y) = omega (arith, length-append X Y) in
+      ap (λ (b : List A). take (at + length X) b ++ (Y ++ drop (at + length X + length Y) b)) (sym (append-assoc (take at l) X (drop (at + length X) l)))
+      ∙ ap (λ (k : ℕ). take k ((take at l ++ X) ++ drop (at + length X) l) ++ (Y ++ drop (k + length Y) ((take at l ++ X) ++ drop (at + length X) l))) (sym long)
+      ∙ ap₂ (λ (a b : List A). a ++ (Y ++ b)) (take-append-seam (take at l ++ X) (drop (at + length X) l))
+      (drop-append-add (take at l ++ X) (drop (at + length X) l) (length Y) ∙ drop-drop (length Y) (at + length X) l)
+      ∙ append-assoc (take at l) X (Y ++ drop (at + length X + length Y) l)
+      ∙ ap (λ (b : List A). take at l ++ b) (sym (append-assoc X Y (drop (at + length X + length Y) l)))
+      ∙ ap (λ (k : ℕ). take at l ++ ((X ++ Y) ++ drop k l)) both
+
+-- ---- elements of an answer, of a mapped list, and all of them
+
+pub over-at : {A : Type 0} (X l : List A) (k : ℕ) (d : A) → k < length X → getD (over X l) k d ≡ getD X k d
+over-at X l k d h = List·getD-append X (drop (length X) l) d k h
+
+pub over-room : {A : Type 0} (X l : List A) → length X ≤ length (over X l)
+over-room X l = omega (arith, length-append X (drop (length X) l))
+
+pub getD-mapped : {A B : Type 0} (f : A → B) (l : List A) (i : ℕ) (a : A) (b : B) → i < length l → getD (map f l) i b ≡ f (getD l i a)
+getD-mapped f [] i a b h = absurd (not-suc-le-zero h)
+getD-mapped f (x ∷ xs) zero a b h = refl
+getD-mapped f (x ∷ xs) (suc i) a b h = getD-mapped f xs i a b (omega arith)
+
+pub every-all : {A : Type 0} (f : A → Bool) (d : A) (s : List A) → ((i : ℕ) → i < length s → f (getD s i d) ≡ true) → every f s ≡ true
+every-all f d [] h = refl
+every-all f d (x ∷ xs) h = ap₂ _&&_ (h 0 (omega arith)) (every-all f d xs (λ i l. h (suc i) (omega arith)))
+
+-- ---- mapped lists
+
+pub map-two : {A B C : Type 0} (f : B → C) (g : A → B) (l : List A) → map f (map g l) ≡ map (λ (a : A). f (g a)) l
+map-two f g [] = refl
+map-two {C = C} f g (x ∷ l) = ap (λ (t : List C). f (g x) ∷ t) (map-two f g l)
+
+pub map-append : {A B : Type 0} (f : A → B) (a b : List A) → map f (a ++ b) ≡ map f a ++ map f b
+map-append f [] b = refl
+map-append {B = B} f (x ∷ a) b = ap (λ (t : List B). f x ∷ t) (map-append f a b)

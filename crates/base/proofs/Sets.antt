@@ -627,3 +627,55 @@ members-unique q (suc n) b (x ∷ xs) ris own all =
             low : T (q (getD (x ∷ xs) k 0)) × (b ≤ getD (x ∷ xs) k 0) × (getD (x ∷ xs) k 0 < b + suc n) → Dec (b ≡ getD (x ∷ xs) k 0) → suc b ≤ getD (x ∷ xs) k 0
             low o (yes e) = absurd (t (subst (λ (v : ℕ). T (q v)) (sym e) (o .0)))
             low o (no e) = omega (arith, o .1)
+
+-- ---- sums of which some numbers count
+
+pub sum-ones : (n : ℕ) → sumBelow n (λ j. 1) ≡ n
+unfolding sumBelow
+sum-ones zero = refl
+sum-ones (suc n) = omega (arith, sum-ones n)
+
+-- a sum of which one number counts
+pub sum-place : (n : ℕ) (f : ℕ → ℕ) (x : ℕ) → x < n → ((c : ℕ) → c < n → (c ≡ x → ⊥) → f c ≡ 0) → sumBelow n f ≡ f x
+unfolding sumBelow
+sum-place zero f x h z = absurd (not-suc-le-zero h)
+sum-place (suc n) f x h z = go (ℕ-discrete x n) (λ l. sum-place n f x l (λ c m. z c (omega arith)))
+  where
+    go : Dec (x ≡ n) → (x < n → sumBelow n f ≡ f x) → sumBelow n f + f n ≡ f x
+    go (yes d) ih =
+        let none : sumBelow n f ≡ 0 = sum-cong n f (λ c. 0) (λ c m. z c (omega arith) (λ e. omega arith)) ∙ sum-none n in
+        omega (arith, none, ap f d)
+    go (no d) ih =
+        let last : f n ≡ 0 = z n (omega arith) (λ e. d (sym e)) in
+        omega (arith, ih (omega arith), last)
+
+pub sum-if : (b : Bool) (n : ℕ) (f : ℕ → ℕ) → cond b (sumBelow n f) 0 ≡ sumBelow n (λ j. cond b (f j) 0)
+sum-if true n f = refl
+sum-if false n f = sym (sum-none n)
+
+-- numbers that agree on the members have the same sum over them
+pub over-same : (n : ℕ) (p : ℕ → Bool) (f g : ℕ → ℕ) → ((i : ℕ) → i < n → T (p i) → f i ≡ g i) → sumOver n p f ≡ sumOver n p g
+over-same n p f g e = sum-cong n (λ i. cond (p i) (f i) 0) (λ i. cond (p i) (g i) 0) (λ i h. one (p i) (f i) (g i) (e i h))
+  where
+    one : (b : Bool) (x y : ℕ) → (T b → x ≡ y) → cond b x 0 ≡ cond b y 0
+    one true x y h = h tt
+    one false x y h = refl
+
+-- a sum over the members, one after the other
+pub members-over : (n : ℕ) (p : ℕ → Bool) (f : ℕ → ℕ) → sumBelow (length (membersBelow n p)) (λ k. f (getD (membersBelow n p) k 0)) ≡ sumOver n p f
+members-over n p f =
+    sum-members p 0 n f ∙ sum-cong n (λ j. cond (p (0 + j)) (f (0 + j)) 0) (λ j. cond (p j) (f j) 0) (λ j h. ap (λ (i : ℕ). cond (p i) (f i) 0) (zero-add j))
+
+pub count-over : (n : ℕ) (p : ℕ → Bool) (f : ℕ → ℕ) → sumBelow (countBelow n p) (λ k. f (getD (membersBelow n p) k 0)) ≡ sumOver n p f
+count-over n p f = ap (λ (m : ℕ). sumBelow m (λ k. f (getD (membersBelow n p) k 0))) (sym (count-members n p)) ∙ members-over n p f
+
+-- ---- rules that agree on the members map them alike
+
+pub map-alike : (f g : ℕ → ℕ) (p : ℕ → Bool) (b n : ℕ) → ((c : ℕ) → b ≤ c → c < b + n → T (p c) → f c ≡ g c) → map f (membersFrom p b n) ≡ map g (membersFrom p b n)
+map-alike f g p b zero e = ap (map f) (members-zero p b) ∙ sym (ap (map g) (members-zero p b))
+map-alike f g p b (suc n) e =
+    ap (map f) (members-suc p b n) ∙ one (p b) refl (map-alike f g p (suc b) n (λ c a l u. e c (omega arith) (omega arith) u)) ∙ sym (ap (map g) (members-suc p b n))
+  where
+    one : (t : Bool) → p b ≡ t → map f (membersFrom p (suc b) n) ≡ map g (membersFrom p (suc b) n) → map f (keep t b (membersFrom p (suc b) n)) ≡ map g (keep t b (membersFrom p (suc b) n))
+    one true h ih = ap₂ _∷_ (e b (omega arith) (omega arith) (T-of (p b) h)) ih
+    one false h ih = ih

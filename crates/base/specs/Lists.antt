@@ -1,7 +1,7 @@
 -- Lists: tests of their elements, membership, lists made by a rule, and a list written over the front of a lent one.
 use mathlib.Core.Bool.{Bool, true, false, _&&_, _||_}
 use mathlib.Core.List.{List, [], _∷_, _++_}
-use Prim.Native.Nat.{ℕ, zero, suc, _-_}
+use Prim.Native.Nat.{ℕ, zero, suc, _+_, _-_}
 use lib.Dec.{leb, ltb, eqb}
 use lib.ListN.{length, take, drop, replicate}
 
@@ -52,6 +52,10 @@ written k answer lent = take k answer ++ drop k lent
 -- the answer over the front of the lent list: elements past it are unchanged
 abbrev pub over : {A : Type 0} → List A → List A → List A
 over answer lent = answer ++ drop (length answer) lent
+
+-- the answer in the places from `from` on: elements before and past it are unchanged
+unfoldable pub placed : {A : Type 0} → ℕ → List A → List A → List A
+placed from answer lent = take from lent ++ (answer ++ drop (from + length answer) lent)
 
 -- the answer, zero past it up to the needed length, and unchanged past that
 abbrev pub overZeros : List ℕ → ℕ → List ℕ → List ℕ
