@@ -1,0 +1,3 @@
+// Whether the pairs of a topology and the entries of a matrix bind inside a region: refusals 23 and 24 of a numeric plan, by local row. It holds
+// no public call.
+pub mod inner;
