@@ -1,0 +1,3 @@
+pub mod Sources
+pub mod Steps
+pub mod Slots

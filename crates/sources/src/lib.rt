@@ -1,0 +1,5 @@
+// The sources of one row of a written local pattern: for each of its pairs the entries of the matrix's row with that column, in stored order. No part
+// of the API: a numeric plan writes its rows by it.
+mod counting;
+pub mod inner;
+mod rising;
