@@ -4,7 +4,7 @@ use mathlib.Core.Bool.{true, false}
 use mathlib.Core.List.{List, [], _∷_}
 use lib.IntN.{pos, negsuc}
 use lib.Ieee.{Float, inf, fin, binary64, add, ofBits}
-use Rattle.base.specs.Checks.{plain, wrongLength, must, mustBe}
+use Rattle.base.specs.Checks.{plain, wrongLength, must, mustBe, _then_}
 use Rattle.base.specs.Lists.{listFrom}
 use Rattle.base.specs.declared.Checked.{Checked}
 use Rattle.base.specs.declared.Counted.{Counted}

@@ -1,0 +1,7 @@
+pub mod Runs
+pub mod Grounds
+pub mod Pairs
+pub mod Complete
+pub mod Demand
+pub mod Built
+pub mod Table

@@ -1,0 +1,82 @@
+-- `numeric_plan::check_inputs` meets its contract. Assumes nothing.
+use borrow.Author.Needs.{needs}
+use mathlib.Core.Path.{_≡_, sym, _∙_}
+use native.Mathlib.Omega.{arith}
+use Rattle.base.specs.Checks.{_then_}
+use Rattle.base.specs.declared.Checked.{Checked}
+use Rattle.base.proofs.Checks.{group-pass, group-stop}
+use Rattle.csr32.specs.Matrix.{matrixCheck}
+use Rattle.csr32.proofs.Matrix.{accepted}
+use Rattle.dual_topology.specs.Check.{topologyCheck}
+use Rattle.pattern.specs.Pattern.{regionCheck}
+use Rattle.numeric_plan.specs.Plan.{sidesCheck, planInputs}
+use Rattle.numeric_plan.proofs.Accepted.{Region, accepted-region, square-matrix}
+use Rattle.numeric_plan.proofs.check_inputs.Statement.{statement}
+use Rattle.numeric_plan.proofs.check_inputs.Tie as tie
+
+-- in this arm the matrix is accepted
+matrix : (c : tie.After-enum-told) → matrixCheck (c .before .before .before .before .before .before .before .before .before .before .before .before .before .args .matrix-nrows) (c .before .before .before .before .before .before .before .before .before .before .before .before .before .args .matrix-ncols) (c .before .before .before .before .before .before .before .before .before .before .before .before .before .args .row-ptr .now) (c .before .before .before .before .before .before .before .before .before .before .before .before .before .args .col-idx .now) (c .before .before .before .before .before .before .before .before .before .before .before .before .before .args .values .now) ≡ Checked.Accepted
+matrix c = sym (c .before .before .validate .ensures) ∙ c .enum-told .given .1
+
+-- and here the region
+module _ (c : tie.After-enum-told2) where
+  abbrev s : tie.Start
+  s = c .before .before .before .before .before .before .before .before .before .before .before .before .before .before .before .before
+
+  region : regionCheck (topologyCheck (s .args .nrows) (s .args .ncols) (s .args .row-word-ptr .now) (s .args .row-word-indices .now) (s .args .row-masks .now) (s .args .structural-nnz) (s .args .column-nrows) (s .args .column-ncols) (s .args .column-word-ptr .now) (s .args .column-word-indices .now) (s .args .column-masks .now) (s .args .column-structural-nnz) then sidesCheck (s .args .nrows) (s .args .ncols) (s .args .matrix-nrows) (s .args .matrix-ncols)) (s .args .nrows) (s .args .ncols) (s .args .len) (s .args .words .now) ≡ Checked.Accepted
+  region = sym (c .before .before .check-region .ensures) ∙ c .enum-told2 .given .1
+
+  good : Region (s .args .matrix-nrows) (s .args .matrix-ncols) (s .args .nrows) (s .args .row-word-ptr .now) (s .args .row-word-indices .now) (s .args .row-masks .now) (s .args .column-word-ptr .now) (s .args .column-word-indices .now) (s .args .column-masks .now) (s .args .words .now)
+  good =
+      accepted-region (s .args .matrix-nrows) (s .args .matrix-ncols) (s .args .nrows) (s .args .ncols) (s .args .row-word-ptr .now) (s .args .row-word-indices .now) (s .args .row-masks .now) (s .args .structural-nnz) (s .args .column-nrows) (s .args .column-ncols) (s .args .column-word-ptr .now) (s .args .column-word-indices .now) (s .args .column-masks .now) (s .args .column-structural-nnz) (s .args .len) (s .args .words .now) (λ k. omega (arith, c .before .before .before .before .before .before .before .before .before .before .before .before .before .shared-slice-known3 .given k)) (λ k. omega (arith, c .before .before .before .before .before .before .before .before .before .before .shared-slice-known6 .given k)) (λ k. omega (arith, c .before .before .before .before .before .before .shared-slice-known10 .given k)) region
+
+validate-requires : tie.Need-validate-requires
+validate-requires c κs = search needs
+
+enum-known-r : tie.Need-enum-known-r
+enum-known-r c = search needs
+
+enum-told : tie.Need-enum-told
+enum-told c = search needs
+
+check-region-requires : tie.Need-check-region-requires
+check-region-requires c κs = search needs
+
+enum-known-r-2 : tie.Need-enum-known-r-2
+enum-known-r-2 c = search needs
+
+enum-told-2 : tie.Need-enum-told-2
+enum-told-2 c = search needs
+
+check-rows-requires : tie.Need-check-rows-requires
+check-rows-requires c κs =
+    let s = c .before .before .before .before .before .before .before .before .before .before .before .before .before .before .before .before in
+    let g = good c in
+    (g .topology .rows, square-matrix (s .args .matrix-nrows) (s .args .matrix-ncols) (s .args .nrows) (s .args .row-ptr .now) (s .args .col-idx .now) (g .as-rows) (g .as-cols) (accepted (s .args .matrix-nrows) (s .args .matrix-ncols) (s .args .row-ptr .now) (s .args .col-idx .now) (s .args .values .now) (matrix (c .before .before .before)) .matrix), g .mask)
+
+returns : tie.Need-returns
+unfolding planInputs
+returns c = group-stop _ _ _ (sym (c .before .before .before .validate .ensures) ∙ c .before .r .given .1)
+
+returns-2 : tie.Need-returns-2
+unfolding planInputs
+returns-2 c = group-pass _ _ _ (matrix (c .before .before .before .before)) (group-stop _ _ _ (sym (c .before .before .before .check-region .ensures) ∙ c .before .r2 .given .1))
+
+returns-3 : tie.Need-returns-3
+unfolding planInputs
+returns-3 c = group-pass _ _ _ (matrix (c .before .before .before .before)) (group-pass _ _ _ (region (c .before)) (c .check-rows .ensures))
+
+pub check-inputs-spec : {M : Type 1} → statement M
+check-inputs-spec =
+    tie.close
+    (tie.spec
+    validate-requires
+    enum-known-r
+    enum-told
+    check-region-requires
+    enum-known-r-2
+    enum-told-2
+    check-rows-requires
+    returns
+    returns-2
+    returns-3)
