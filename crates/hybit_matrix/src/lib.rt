@@ -19,6 +19,7 @@ ghost use Rattle.hybit_matrix.specs.Flat.{refusedWith, answeredWith, fla
 
 pub mod both_sides;
 pub mod layout;
+pub mod local;
 pub mod one_side;
 pub mod regions;
 

@@ -1,6 +1,6 @@
 -- A growth after a growth: what the first left is written again, and one answer is told. Assumes nothing.
 use mathlib.Core.Path.{_≡_, refl, sym, ap, _∙_}
-use mathlib.Core.Bool.{true, false}
+use mathlib.Core.Bool.{false}
 use mathlib.Core.List.{List, _++_}
 use Prim.Native.Nat.{ℕ, _≤_}
 use native.Mathlib.Omega.{arith}
@@ -23,8 +23,7 @@ use Rattle.field_region.specs.Growth.{fieldGrowAnswer, blocksGrownBy}
 use Rattle.field_region.specs.declared.FieldGrown.{FieldGrown}
 use Rattle.field_region.specs.declared.FieldAwareRegionStats.{FieldAwareRegionStats}
 use Rattle.field_region.specs.declared.BlocksGrown.{BlocksGrown}
-use Rattle.repeated.specs.Repeated.{hopsAnswer, fieldHopsAnswer}
-use Rattle.repeated.specs.declared.Answer.{Answer}
+use Rattle.repeated.specs.Repeated.{valueAnswer, hopsAnswer, fieldHopsAnswer}
 
 -- what one growth answers and leaves in lists of just the masks' lengths
 pub record Once {A : Type 0} (g : Network) (seeds : List ℕ) (h : ℕ) (answer grown : A) (region frontier scratch : List ℕ) : Type 0 where
@@ -75,13 +74,10 @@ field-accepted (Checked.Refused r) g seeds h s e = let z : _≡_ {A = ℕ} 0 1 =
 
 -- ---- its hops are told
 
-abbrev told : ℕ → Answer
-told k = record { number = 0; present = true; expected = 0; actual = 0; value = k }
-
-pub hops-told : (check : Checked) (g : Network) (seeds : List ℕ) (h : ℕ) (x : Grown) → check ≡ Checked.Accepted → x ≡ grownBy g seeds h → told (x .hops) ≡ hopsAnswer (growAnswer check g seeds h)
+pub hops-told : (check : Checked) (g : Network) (seeds : List ℕ) (h : ℕ) (x : Grown) → check ≡ Checked.Accepted → x ≡ grownBy g seeds h → valueAnswer (x .hops) ≡ hopsAnswer (growAnswer check g seeds h)
 unfolding hopsAnswer
-hops-told check g seeds h x e ex = ap (λ (y : Grown). told (y .hops)) ex ∙ ap (λ (t : Checked). hopsAnswer (growAnswer t g seeds h)) (sym e)
+hops-told check g seeds h x e ex = ap (λ (y : Grown). valueAnswer (y .hops)) ex ∙ ap (λ (t : Checked). hopsAnswer (growAnswer t g seeds h)) (sym e)
 
-pub field-hops-told : (check : Checked) (g : Network) (seeds : List ℕ) (h : ℕ) (x : BlocksGrown) → check ≡ Checked.Accepted → x ≡ blocksGrownBy g seeds h → told (x .grown .hops) ≡ fieldHopsAnswer (fieldGrowAnswer check g seeds h)
+pub field-hops-told : (check : Checked) (g : Network) (seeds : List ℕ) (h : ℕ) (x : BlocksGrown) → check ≡ Checked.Accepted → x ≡ blocksGrownBy g seeds h → valueAnswer (x .grown .hops) ≡ fieldHopsAnswer (fieldGrowAnswer check g seeds h)
 unfolding fieldHopsAnswer
-field-hops-told check g seeds h x e ex = ap (λ (y : BlocksGrown). told (y .grown .hops)) ex ∙ ap (λ (t : Checked). fieldHopsAnswer (fieldGrowAnswer t g seeds h)) (sym e)
+field-hops-told check g seeds h x e ex = ap (λ (y : BlocksGrown). valueAnswer (y .grown .hops)) ex ∙ ap (λ (t : Checked). fieldHopsAnswer (fieldGrowAnswer t g seeds h)) (sym e)

@@ -1,5 +1,5 @@
-// For the benchmark only: a growth made many times after one check of its inputs, so that the time of the growth itself can be told from the
-// time of the checks. It leaves and answers what one growth does. No part of the static library.
+// For the benchmark only: a growth, a pattern or a gather made many times after one check of its inputs, so that its own time can be told from
+// the time of the checks. It leaves and answers what one call does. No part of the static library.
 use base::Refusal;
 use field_region::BlocksGrown;
 use field_region::FieldGrown;
@@ -20,7 +20,9 @@ ghost use Rattle.region.specs.Growth.{growCheck, growAnswer};
 ghost use Rattle.field_region.specs.Growth.{fieldGrowCheck, fieldGrowAnswer, blocksGrownBy};
 ghost use Rattle.repeated.specs.Repeated.{hopsAnswer, fieldHopsAnswer};
 
-// The hops completed.
+pub mod local;
+
+// The value: the hops completed, or the count of pairs.
 #[repr(C)]
 pub struct Answer {
     pub number: u32,
