@@ -5,3 +5,4 @@ pub mod Complete
 pub mod Demand
 pub mod Built
 pub mod Table
+pub mod Cutting
