@@ -1,5 +1,5 @@
-//! Links librepeated.a where it stands beside the port: growth by growth after
-//! one check. Without it the rows that need it are left out.
+//! Links librepeated.a where it stands beside the port: the work of a call many
+//! times after one check. Without it the rows that need it are left out.
 
 use std::env;
 use std::path::Path;

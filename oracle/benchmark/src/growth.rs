@@ -13,8 +13,9 @@ use hybit_original::{
 use crate::layout::blocks::entity_major;
 use crate::layout::port::Lists;
 use crate::measure::{Table, repeated, single};
+use crate::sides::Topology;
 use crate::topology::matrices::{banded, scattered};
-use port::{Lent, Topology};
+use port::Lent;
 
 /// The largest side that document 01 allows, and the largest that blocks of 3
 /// fill.
@@ -25,9 +26,6 @@ const HOPS: [u64; 2] = [1, 4];
 const LONG_HOPS: [u64; 4] = [1, 2, 4, 8];
 
 pub fn rows(table: &mut Table, long: bool) {
-    if !port::REPEATED {
-        println!("(librepeated.a is not at hand: no rows without checks)");
-    }
     let (entries, hops): (&[usize], &[u64]) = if long {
         (&[5, 16], &LONG_HOPS)
     } else {

@@ -4,15 +4,18 @@
 //! ```text
 //! benchmark               all rows but the slowest
 //! benchmark long          all rows
-//! benchmark GROUP [long]  those of layout, of topology or of growth
+//! benchmark GROUP [long]  those of layout, of topology, of growth or of local
+//! benchmark local small   those of local on few rows, to see that they run
 //! ```
 
 mod growth;
 mod layout;
+mod local;
 mod measure;
 mod memory;
 #[cfg(repeated)]
 mod rest;
+mod sides;
 mod topology;
 
 use std::env;
@@ -24,16 +27,21 @@ use measure::Table;
 /// built for: `target-cpu=native` would favour the Rust.
 const _: () = assert!(!cfg!(target_feature = "sse3"), "built with target-cpu");
 
-const GROUPS: [&str; 3] = ["layout", "topology", "growth"];
+const GROUPS: [&str; 4] = ["layout", "topology", "growth", "local"];
+
+/// The largest side that document 01 allows, and one that takes no time.
+const MOST_ROWS: usize = 1_048_576;
+const FEW_ROWS: usize = 16_384;
 
 fn main() {
     let arguments: Vec<String> = env::args().skip(1).collect();
     let arguments: Vec<&str> = arguments.iter().map(String::as_str).collect();
-    let (group, long) = match arguments.as_slice() {
-        [] => (None, false),
-        ["long"] => (None, true),
-        [group] => (Some(*group), false),
-        [group, "long"] => (Some(*group), true),
+    let (group, long, rows) = match arguments.as_slice() {
+        [] => (None, false, MOST_ROWS),
+        ["long"] => (None, true, MOST_ROWS),
+        ["local", "small"] => (Some("local"), true, FEW_ROWS),
+        [group] => (Some(*group), false, MOST_ROWS),
+        [group, "long"] => (Some(*group), true, MOST_ROWS),
         _ => usage(),
     };
     if group.is_some_and(|group| !GROUPS.contains(&group)) {
@@ -47,13 +55,20 @@ fn main() {
     if wanted("topology") {
         topology::rows(&mut table, long);
     }
+    if !cfg!(repeated) && (wanted("growth") || wanted("local")) {
+        println!("(librepeated.a is not at hand: no rows without checks)");
+    }
     if wanted("growth") {
         growth::rows(&mut table, long);
+    }
+    if wanted("local") {
+        local::rows(&mut table, rows, long);
     }
     table.finish();
 }
 
 fn usage() -> ! {
     println!("usage: benchmark [{}] [long]", GROUPS.join(" | "));
+    println!("       benchmark local small");
     exit(1);
 }

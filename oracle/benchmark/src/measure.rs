@@ -81,9 +81,9 @@ impl Table {
             "figures are the most that it holds while it builds, and what is left of that then."
         );
         println!(
-            "`without checks`: many growths of the port after one check, less one growth after"
+            "`without checks`: the port's work many times after one check, less the work once"
         );
-        println!("one check; the Rust's growth checks nothing but the sizes.");
+        println!("after one check; the Rust checks nothing but the sizes there.");
         println!();
         println!(
             "{:<28} {:<46} {:>12} {:>12} {:>12} {:>7}",
@@ -95,30 +95,30 @@ impl Table {
     }
 
     /// Measures and prints one row; the port's time.
-    pub fn row(
+    pub fn row(&mut self, call: &str, input: &str, port: Sample, rust: Option<Sample>) -> f64 {
+        let measured = Measured::of(port, rust);
+        println!("{}", measured.shown(call, input));
+        measured.port
+    }
+
+    /// The same, and beside it how much of the Rust's time it should take at
+    /// most.
+    pub fn row_within(
         &mut self,
+        target: f64,
         call: &str,
         input: &str,
-        mut port: Sample,
-        mut rust: Option<Sample>,
+        port: Sample,
+        rust: Sample,
     ) -> f64 {
-        let start = Instant::now();
-        let mut port_times = vec![port()];
-        let mut rust_times: Vec<f64> = rust.iter_mut().map(|rust| rust()).collect();
-        while wants_more(port_times.len(), start.elapsed()) {
-            port_times.push(port());
-            rust_times.extend(rust.as_mut().map(|rust| rust()));
-        }
-        let samples = port_times.len();
-        let port = median(port_times);
-        let (rust, ratio) = if rust_times.is_empty() {
-            ("-".into(), "-".into())
-        } else {
-            let rust = median(rust_times);
-            (format!("{rust:.3}"), format!("{:.2}", port / rust))
-        };
-        println!("{call:<28} {input:<46} {port:>12.3} {rust:>12} {ratio:>12} {samples:>7}");
-        port
+        let measured = Measured::of(port, Some(rust));
+        let met = measured.ratio().is_some_and(|ratio| ratio <= target);
+        println!(
+            "{}  at most {target:.1}: {}",
+            measured.shown(call, input),
+            if met { "met" } else { "over" }
+        );
+        measured.port
     }
 
     /// Prints under a row what the lent lists take, and the Rust at most and in
@@ -148,6 +148,42 @@ impl Table {
             "benchmark: {:.1} s in all",
             self.start.elapsed().as_secs_f64()
         );
+    }
+}
+
+/// The medians of one row.
+struct Measured {
+    port: f64,
+    rust: Option<f64>,
+    samples: usize,
+}
+
+impl Measured {
+    fn of(mut port: Sample, mut rust: Option<Sample>) -> Self {
+        let start = Instant::now();
+        let mut port_times = vec![port()];
+        let mut rust_times: Vec<f64> = rust.iter_mut().map(|rust| rust()).collect();
+        while wants_more(port_times.len(), start.elapsed()) {
+            port_times.push(port());
+            rust_times.extend(rust.as_mut().map(|rust| rust()));
+        }
+        Self {
+            samples: port_times.len(),
+            port: median(port_times),
+            rust: rust.is_some().then(|| median(rust_times)),
+        }
+    }
+
+    fn ratio(&self) -> Option<f64> {
+        self.rust.map(|rust| self.port / rust)
+    }
+
+    fn shown(&self, call: &str, input: &str) -> String {
+        let or_none = |shown: Option<String>| shown.unwrap_or("-".into());
+        let rust = or_none(self.rust.map(|rust| format!("{rust:.3}")));
+        let ratio = or_none(self.ratio().map(|ratio| format!("{ratio:.2}")));
+        let Self { port, samples, .. } = self;
+        format!("{call:<28} {input:<46} {port:>12.3} {rust:>12} {ratio:>12} {samples:>7}")
     }
 }
 

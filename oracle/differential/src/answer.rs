@@ -17,149 +17,65 @@ pub struct Answer {
     pub values: [u64; VALUES],
 }
 
-impl From<hybit_port::Answer> for Answer {
-    fn from(flat: hybit_port::Answer) -> Self {
-        Self {
-            number: flat.number,
-            present: flat.present,
-            expected: flat.expected,
-            actual: flat.actual,
-            ..Self::told(flat.value)
-        }
-    }
+/// Takes one of the port's records over: its counts, then its ratios by their
+/// bits.
+macro_rules! from_record {
+    ($($record:ident { $($count:ident),*; $($ratio:ident),* })*) => {
+        $(impl From<hybit_port::$record> for Answer {
+            fn from(flat: hybit_port::$record) -> Self {
+                Self {
+                    number: flat.number,
+                    present: flat.present,
+                    expected: flat.expected,
+                    actual: flat.actual,
+                    ..Self::told_all(&[
+                        $(u64::from(flat.$count),)*
+                        $(flat.$ratio.to_bits(),)*
+                    ])
+                }
+            }
+        })*
+    };
 }
 
-impl From<hybit_port::PairAnswer> for Answer {
-    fn from(flat: hybit_port::PairAnswer) -> Self {
-        Self {
-            number: flat.number,
-            present: flat.present,
-            expected: flat.expected,
-            actual: flat.actual,
-            ..Self::told_all(&[flat.first, flat.second])
-        }
+from_record! {
+    Answer { value; }
+    PairAnswer { first, second; }
+    BuildAnswer { row_words, column_words, pairs; }
+    TopologyStatsAnswer {
+        nrows, ncols, structural_nnz, nonempty_words, metadata_bytes;
+        average_word_nnz, word_fill_ratio, metadata_bytes_per_nnz
     }
-}
-
-impl From<hybit_port::BuildAnswer> for Answer {
-    fn from(flat: hybit_port::BuildAnswer) -> Self {
-        Self {
-            number: flat.number,
-            present: flat.present,
-            expected: flat.expected,
-            actual: flat.actual,
-            ..Self::told_all(&[flat.row_words, flat.column_words, flat.pairs])
-        }
+    DualStatsAnswer {
+        nrows, ncols, structural_nnz, row_metadata_bytes, column_metadata_bytes,
+        total_metadata_bytes;
+        metadata_bytes_per_nnz
     }
-}
-
-impl From<hybit_port::TopologyStatsAnswer> for Answer {
-    fn from(flat: hybit_port::TopologyStatsAnswer) -> Self {
-        Self {
-            number: flat.number,
-            present: flat.present,
-            expected: flat.expected,
-            actual: flat.actual,
-            ..Self::told_all(&[
-                flat.nrows,
-                flat.ncols,
-                flat.structural_nnz,
-                flat.nonempty_words,
-                flat.metadata_bytes,
-                flat.average_word_nnz.to_bits(),
-                flat.word_fill_ratio.to_bits(),
-                flat.metadata_bytes_per_nnz.to_bits(),
-            ])
-        }
+    GrowthAnswer {
+        hops_requested, hops_completed, seed_nodes, region_nodes,
+        frontier_nodes_visited, row_words_visited, column_words_visited,
+        candidate_neighbor_bits, topology_words_visited, new_nodes;
     }
-}
-
-impl From<hybit_port::DualStatsAnswer> for Answer {
-    fn from(flat: hybit_port::DualStatsAnswer) -> Self {
-        Self {
-            number: flat.number,
-            present: flat.present,
-            expected: flat.expected,
-            actual: flat.actual,
-            ..Self::told_all(&[
-                flat.nrows,
-                flat.ncols,
-                flat.structural_nnz,
-                flat.row_metadata_bytes,
-                flat.column_metadata_bytes,
-                flat.total_metadata_bytes,
-                flat.metadata_bytes_per_nnz.to_bits(),
-            ])
-        }
+    FieldGrowthAnswer {
+        hops_requested, hops_completed, seed_dofs, block_closed_seed_dofs,
+        region_dofs, region_blocks, frontier_dofs_visited, row_words_visited,
+        column_words_visited, candidate_neighbor_bits;
     }
-}
-
-impl From<hybit_port::GrowthAnswer> for Answer {
-    fn from(flat: hybit_port::GrowthAnswer) -> Self {
-        Self {
-            number: flat.number,
-            present: flat.present,
-            expected: flat.expected,
-            actual: flat.actual,
-            ..Self::told_all(&[
-                flat.hops_requested,
-                flat.hops_completed,
-                flat.seed_nodes,
-                flat.region_nodes,
-                flat.frontier_nodes_visited,
-                flat.row_words_visited,
-                flat.column_words_visited,
-                flat.candidate_neighbor_bits,
-                flat.topology_words_visited,
-                flat.new_nodes,
-            ])
-        }
+    MultiplicityAnswer {
+        region_count, node_count, total_memberships, covered_nodes,
+        overlap_nodes, max_multiplicity, pair_overlap_memberships,
+        extra_memberships;
+        average_multiplicity_on_covered, overlap_fraction_on_covered
     }
-}
-
-impl From<hybit_port::FieldGrowthAnswer> for Answer {
-    fn from(flat: hybit_port::FieldGrowthAnswer) -> Self {
-        Self {
-            number: flat.number,
-            present: flat.present,
-            expected: flat.expected,
-            actual: flat.actual,
-            ..Self::told_all(&[
-                flat.hops_requested,
-                flat.hops_completed,
-                flat.seed_dofs,
-                flat.block_closed_seed_dofs,
-                flat.region_dofs,
-                flat.region_blocks,
-                flat.frontier_dofs_visited,
-                flat.row_words_visited,
-                flat.column_words_visited,
-                flat.candidate_neighbor_bits,
-            ])
-        }
+    PatternAnswer {
+        global_nodes, local_nodes, local_nnz, topology_words_visited,
+        candidate_neighbor_bits, kept_neighbor_bits, mapping_scratch_bytes,
+        pattern_bytes;
+        structural_pruning_ratio, average_local_row_nnz
     }
-}
-
-impl From<hybit_port::MultiplicityAnswer> for Answer {
-    fn from(flat: hybit_port::MultiplicityAnswer) -> Self {
-        Self {
-            number: flat.number,
-            present: flat.present,
-            expected: flat.expected,
-            actual: flat.actual,
-            ..Self::told_all(&[
-                flat.region_count,
-                flat.node_count,
-                flat.total_memberships,
-                flat.covered_nodes,
-                flat.overlap_nodes,
-                flat.max_multiplicity,
-                flat.pair_overlap_memberships,
-                flat.extra_memberships,
-                flat.average_multiplicity_on_covered.to_bits(),
-                flat.overlap_fraction_on_covered.to_bits(),
-            ])
-        }
+    PlanAnswer {
+        local_nodes, local_nnz, source_terms, duplicate_source_terms,
+        direct_source_map, plan_bytes;
     }
 }
 
@@ -210,6 +126,7 @@ impl Answer {
             ..Self::refused(11)
         }
     }
+
     /// 0 if the answer is none, 1 if the first value is 0, 2 if it is more.
     pub fn none_zero_or_more(&self) -> u64 {
         u64::from(self.present) + self.values[0].min(1)

@@ -25,7 +25,7 @@ pub const REGION_LIMIT: usize = 65_536;
 const _: () = assert!(usize::BITS == 64);
 
 /// The number that 01 gives to an error of the Rust.
-const NUMBERS: [(&str, u32); 21] = [
+const NUMBERS: [(&str, u32); 25] = [
     ("row_ptr length must equal nrows + 1", 2),
     ("col_idx and values lengths differ", 3),
     ("row_ptr[0] must be zero", 4),
@@ -47,6 +47,22 @@ const NUMBERS: [(&str, u32); 21] = [
     ("ABTM topology row index out of range", 13),
     ("ABTM topology row rank column out of range", 13),
     ("ABTM topology dimensions differ", 22),
+    (
+        "ABTM local submatrix extraction requires a square topology",
+        10,
+    ),
+    (
+        "ABTM local numeric plan topology/matrix dimensions differ",
+        22,
+    ),
+    (
+        "ABTM local numeric plan could not bind a structural entry",
+        23,
+    ),
+    (
+        "CSR local structure contains entries absent from ABTM topology",
+        24,
+    ),
 ];
 
 /// The errors of 9: those of `AbtmTopology::validate` and the two that

@@ -7,6 +7,7 @@
 mod csr32;
 mod growth;
 mod layout;
+mod local;
 mod mask;
 mod topology;
 mod word;
@@ -52,6 +53,11 @@ pub trait GroupCalls: GroupCall + Sized {
 
     /// A few cases at the edges, for the recorded answers.
     fn edges(_offer: &mut dyn FnMut(Self)) {}
+
+    /// Calls that no record has room for, for the self-test.
+    fn unrecorded() -> Vec<Self> {
+        vec![]
+    }
 }
 
 /// A function of the port, and the refusals it can give.
@@ -66,6 +72,7 @@ pub struct Group {
     pub fixed: fn(&mut dyn FnMut(Call)),
     pub random: fn(&mut Rng) -> Call,
     pub edges: fn(&mut dyn FnMut(Call)),
+    pub unrecorded: fn() -> Vec<Call>,
 }
 
 impl Group {
@@ -81,6 +88,7 @@ impl Group {
             fixed: |run| C::fixed(&mut |call| run(call.into())),
             random: |rng| C::random(rng).into(),
             edges: |offer| C::edges(&mut |call| offer(call.into())),
+            unrecorded: || C::unrecorded().into_iter().map(C::into).collect(),
         }
     }
 }
@@ -135,6 +143,7 @@ groups! {
     Layout(layout),
     Topology(topology),
     Growth(growth),
+    Local(local),
 }
 
 pub fn named(name: &str) -> Option<&'static Group> {

@@ -8,6 +8,7 @@
 //! differential record-layout FOLDER    writes those of the calls on layouts
 //! differential record-topology FOLDER  writes those of the calls on topologies
 //! differential record-growth FOLDER    writes those of the calls on regions
+//! differential record-local FOLDER     writes those of the calls on local systems
 //! differential self-test               wrong expectations must be reported
 //! ```
 

@@ -20,3 +20,26 @@ macro_rules! port {
     };
 }
 pub(crate) use port;
+
+/// Lends a topology, then what else the function takes.
+macro_rules! on_topology {
+    ($function:ident, $topology:expr, $($more:tt)*) => {
+        crate::port::port!($function(
+            $topology.rows.nrows,
+            $topology.rows.ncols,
+            [$topology.rows.row_word_ptr],
+            [$topology.rows.word_indices],
+            [$topology.rows.masks],
+            $topology.rows.structural_nnz,
+            $topology.columns.nrows,
+            $topology.columns.ncols,
+            [$topology.columns.row_word_ptr],
+            [$topology.columns.word_indices],
+            [$topology.columns.masks],
+            $topology.columns.structural_nnz,
+            $($more)*
+        ))
+        .into()
+    };
+}
+pub(crate) use on_topology;

@@ -10,7 +10,7 @@ use std::io;
 use std::path::Path;
 
 use crate::compare::expected;
-use crate::groups::Call;
+use crate::groups::{Call, GROUPS};
 use crate::rng::Rng;
 pub use format::{FORMATS, Format};
 use shares::Shares;
@@ -18,9 +18,10 @@ use shares::Shares;
 /// So many random calls of each group are there to choose from.
 const RANDOM: usize = 40_000;
 
-/// The calls that are recorded in any format.
+/// The calls that are recorded in any format, and some that none has room for.
 pub fn all_calls() -> Vec<Call> {
-    FORMATS.iter().flat_map(calls).collect()
+    let unrecorded = GROUPS.iter().flat_map(|group| (group.unrecorded)());
+    FORMATS.iter().flat_map(calls).chain(unrecorded).collect()
 }
 
 /// 01's examples, edges, then random ones, until each kind has its share.

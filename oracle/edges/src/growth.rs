@@ -95,7 +95,7 @@ fn empty() -> Csr32Matrix {
     Csr32Matrix::new(0, 0, vec![0], vec![], vec![]).unwrap()
 }
 
-fn nodes(len: usize, indices: &[usize]) -> DofMask {
+pub fn nodes(len: usize, indices: &[usize]) -> DofMask {
     DofMask::from_indices(len, indices).unwrap()
 }
 
@@ -117,7 +117,7 @@ fn side(size: usize, row_word_ptr: &[u32], masks: &[u64]) -> AbtmTopology {
 }
 
 /// Rows of the entries (0,1) and (1,2), columns of the entries (2,0), (0,2).
-fn not_transposed() -> AbtmDualTopology {
+pub fn not_transposed() -> AbtmDualTopology {
     AbtmDualTopology {
         rows: side(3, &[0, 1, 2, 2], &[2, 4]),
         columns: side(3, &[0, 1, 1, 2], &[4, 1]),

@@ -8,6 +8,7 @@
 mod growth;
 mod limits;
 mod masks;
+mod plans;
 mod topologies;
 mod values;
 
@@ -30,6 +31,7 @@ fn main() {
     growth::run();
     masks::run();
     topologies::run();
+    plans::run();
     growth::empty_matrix();
 }
 

@@ -2,9 +2,11 @@
 //! they answer with. Slices pass as a pointer and a length.
 
 mod growth;
+mod local;
 mod topology;
 
 pub use growth::*;
+pub use local::*;
 pub use topology::*;
 
 #[repr(C)]

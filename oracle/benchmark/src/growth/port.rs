@@ -2,29 +2,12 @@
 
 use std::cell::RefCell;
 
-use hybit_original::{AbtmDualTopology, AbtmTopology, DofMask};
+use hybit_original::DofMask;
 use hybit_port::*;
 
 use crate::layout::port::Lists;
 use crate::measure::Sample;
-
-/// Can a growth be repeated after one check?
-pub const REPEATED: bool = cfg!(repeated);
-
-struct Side {
-    nrows: usize,
-    ncols: usize,
-    pointers: Vec<u32>,
-    words: Vec<u32>,
-    masks: Vec<u64>,
-    pairs: usize,
-}
-
-/// The lists of both sides, each with exactly its own words.
-pub struct Topology {
-    rows: Side,
-    columns: Side,
-}
+use crate::sides::{Topology, on_topology};
 
 /// The three masks that a growth is lent.
 pub struct Lent {
@@ -49,60 +32,7 @@ impl Lent {
     }
 }
 
-impl Side {
-    /// The Rust keeps its lists to itself; they are the words of its rows.
-    fn of(side: &AbtmTopology) -> Self {
-        let mut lists = Self {
-            nrows: side.nrows(),
-            ncols: side.ncols(),
-            pointers: vec![0],
-            words: vec![],
-            masks: vec![],
-            pairs: side.structural_nnz(),
-        };
-        for row in (0..side.nrows()).map_while(|row| side.row(row).ok()) {
-            for word in row.words() {
-                lists.words.push(word.word_index());
-                lists.masks.push(word.mask());
-            }
-            lists.pointers.push(lists.masks.len() as u32);
-        }
-        lists
-    }
-}
-
-/// Lends a topology, then what else the function takes.
-macro_rules! on_topology {
-    ($function:ident, $topology:expr, $($more:expr),*) => {
-        // SAFETY: every pointer goes with the length of its own list, and the
-        // lists that are written are borrowed apart from the others.
-        unsafe {
-            $function(
-                $topology.rows.nrows,
-                $topology.rows.ncols,
-                $topology.rows.pointers.as_ptr(),
-                $topology.rows.pointers.len(),
-                $topology.rows.words.as_ptr(),
-                $topology.rows.words.len(),
-                $topology.rows.masks.as_ptr(),
-                $topology.rows.masks.len(),
-                $topology.rows.pairs,
-                $topology.columns.nrows,
-                $topology.columns.ncols,
-                $topology.columns.pointers.as_ptr(),
-                $topology.columns.pointers.len(),
-                $topology.columns.words.as_ptr(),
-                $topology.columns.words.len(),
-                $topology.columns.masks.as_ptr(),
-                $topology.columns.masks.len(),
-                $topology.columns.pairs,
-                $($more),*
-            )
-        }
-    };
-}
-
-/// The same with seeds, hops (and how often) and the three masks.
+/// Lends a topology, seeds, hops (and how often) and the three masks.
 macro_rules! grown {
     ($function:ident, $topology:expr, $seeds:expr, [$($hops:expr),*], $lent:expr) => {
         on_topology!(
@@ -153,13 +83,6 @@ macro_rules! grown_by_blocks {
 }
 
 impl Topology {
-    pub fn of(rust: &AbtmDualTopology) -> Self {
-        Self {
-            rows: Side::of(rust.row_topology()),
-            columns: Side::of(rust.column_topology()),
-        }
-    }
-
     pub fn grow(&self, seeds: &DofMask, hops: u64, lent: &mut Lent) -> GrowthAnswer {
         grown!(hybit_grow_undirected_region, self, seeds, [hops], lent)
     }
@@ -188,36 +111,9 @@ mod repeated {
 
     use super::*;
     use crate::rest::without_rest;
+    use crate::sides::repeated_on_topology;
 
-    macro_rules! on_two_sides {
-        ($($function:ident($($more:ident: $kind:ty),*);)*) => {
-            unsafe extern "C" {
-                $(fn $function(
-                    row_nrows: usize,
-                    row_ncols: usize,
-                    row_pointers: *const u32,
-                    row_pointers_len: usize,
-                    row_words: *const u32,
-                    row_words_len: usize,
-                    row_masks: *const u64,
-                    row_masks_len: usize,
-                    row_pairs: usize,
-                    column_nrows: usize,
-                    column_ncols: usize,
-                    column_pointers: *const u32,
-                    column_pointers_len: usize,
-                    column_words: *const u32,
-                    column_words_len: usize,
-                    column_masks: *const u64,
-                    column_masks_len: usize,
-                    column_pairs: usize,
-                    $($more: $kind),*
-                ) -> Answer;)*
-            }
-        };
-    }
-
-    on_two_sides! {
+    repeated_on_topology! {
         hybit_repeated_growth(
             len: usize,
             words: *const u64,

@@ -8,7 +8,8 @@ mod values;
 
 pub use expected::accepted;
 pub use fixed::lists;
-pub use random::damage;
+pub use random::{damage, finite};
+pub use values::{FINITE, NOT_FINITE};
 
 use super::{Function, GroupCall, GroupCalls};
 use crate::answer::Answer;

@@ -12,8 +12,15 @@ mod orders;
 mod port;
 mod random;
 mod regions;
-mod rooms;
+pub mod rooms;
 mod small;
+
+pub use cases::{BORDERS, FAR, blocks_of, chain, faulty_part, mask_of, pairs_of, wrong_masks};
+pub use expected::without_words;
+pub use fields::cut;
+pub use fixed::{any_way, graphs, one_way, seeds};
+pub use random::{random_seeds, random_side, random_topology};
+pub use small::{each_graph, each_mask};
 
 use super::layout::Layout;
 use super::mask::Mask;

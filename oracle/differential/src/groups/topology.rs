@@ -14,9 +14,11 @@ mod rooms;
 mod small;
 mod wide;
 
-pub use cases::{Pair, topology as of_pairs};
+pub use cases::{Pair, matrix as matrix_of_rows, pairs, topology as of_pairs};
 pub use expected::accepted_topology;
+pub use matrices::{ORDERS, Order, ordered, row as ordered_row};
 pub use random::break_side;
+pub use rooms::{both_lent, near, of_both};
 
 use super::csr32::Matrix;
 use super::{Function, GroupCall, GroupCalls};

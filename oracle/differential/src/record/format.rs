@@ -76,6 +76,22 @@ pub static FORMATS: &[Format] = &[
         refused: 3,
         seed: 6,
     },
+    // Two sides, a matrix (of a gather its plan and values), a mask, then the
+    // five lists of a plan and the values that a gather writes.
+    Format {
+        argument: "record-local",
+        groups: &["local"],
+        numbers: 9,
+        lists: &[
+            LIST, LIST, LIST, LIST, LIST, LIST, LIST, LIST, LIST, MASK, LIST, LIST, LIST, LIST,
+            LIST, LIST,
+        ],
+        values: 10,
+        written: &[LIST; 6],
+        accepted: 5,
+        refused: 5,
+        seed: 7,
+    },
 ];
 
 pub struct Format {

@@ -36,7 +36,7 @@ fn right(rng: &mut Rng) -> Matrix {
     matrix
 }
 
-fn finite(rng: &mut Rng) -> f64 {
+pub fn finite(rng: &mut Rng) -> f64 {
     match rng.below(3) {
         0 => f64::from_bits(rng.pick(&FINITE)),
         1 => rng.below(100) as f64 - 50.0,

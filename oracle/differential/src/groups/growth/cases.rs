@@ -188,7 +188,7 @@ pub fn told_apart(call: &Call, answer: Answer) -> u64 {
 }
 
 /// Of a refused topology: the rows, the columns or how they go together.
-fn faulty_part(topology: &Topology) -> u64 {
+pub fn faulty_part(topology: &Topology) -> u64 {
     match faults::of_topology(topology) {
         100.. => 0,
         ..10 => 1,

@@ -199,7 +199,7 @@ fn opened(layout: &Layout) -> Result<FieldAwareDofLayout, Answer> {
     FieldAwareDofLayout::new(blocks.collect()).map_err(refusal)
 }
 
-fn without_words(mask: &Mask) -> DofMask {
+pub fn without_words(mask: &Mask) -> DofMask {
     DofMask {
         len: mask.len,
         words: vec![],

@@ -5,29 +5,7 @@ use crate::answer::Answer;
 use crate::groups::layout::Layout;
 use crate::groups::mask::Mask;
 use crate::groups::topology::Topology;
-use crate::port::port;
-
-/// Lends a topology, then what else the function takes.
-macro_rules! on_topology {
-    ($function:ident, $topology:expr, $($more:tt)*) => {
-        port!($function(
-            $topology.rows.nrows,
-            $topology.rows.ncols,
-            [$topology.rows.row_word_ptr],
-            [$topology.rows.word_indices],
-            [$topology.rows.masks],
-            $topology.rows.structural_nnz,
-            $topology.columns.nrows,
-            $topology.columns.ncols,
-            [$topology.columns.row_word_ptr],
-            [$topology.columns.word_indices],
-            [$topology.columns.masks],
-            $topology.columns.structural_nnz,
-            $($more)*
-        ))
-        .into()
-    };
-}
+use crate::port::{on_topology, port};
 
 /// Lends a layout, then what else the function takes.
 macro_rules! on_layout {

@@ -21,7 +21,7 @@ pub fn random(rng: &mut Rng) -> Call {
     }
 }
 
-fn side(rng: &mut Rng) -> usize {
+pub fn random_side(rng: &mut Rng) -> usize {
     match rng.below(100) {
         0 => rng.below(201),
         1..4 => rng.pick(&[63, 64, 65, 66, 127, 128, 129]),
@@ -58,7 +58,7 @@ fn path(rng: &mut Rng, side: usize) -> Vec<Pair> {
         .collect()
 }
 
-fn random_topology(rng: &mut Rng, side: usize) -> Topology {
+pub fn random_topology(rng: &mut Rng, side: usize) -> Topology {
     let mut topology = graph(rng, side);
     match rng.below(40) {
         0 => break_side(rng, &mut topology.rows),
@@ -75,7 +75,7 @@ fn random_topology(rng: &mut Rng, side: usize) -> Topology {
     topology
 }
 
-fn seeds(rng: &mut Rng, side: usize) -> Mask {
+pub fn random_seeds(rng: &mut Rng, side: usize) -> Mask {
     let mut mask = match rng.below(8) {
         _ if side == 0 => mask_of(0, &[]),
         0 => mask_of(side, &[]),
@@ -107,10 +107,10 @@ fn hops(rng: &mut Rng, side: usize) -> u64 {
 }
 
 fn grow(rng: &mut Rng) -> Call {
-    let side = side(rng);
+    let side = random_side(rng);
     Call::Grow {
         topology: random_topology(rng, side),
-        seeds: seeds(rng, side),
+        seeds: random_seeds(rng, side),
         hops: hops(rng, side),
         lent: rooms::random(rng, words_needed(side)),
     }
@@ -135,11 +135,11 @@ fn layout(rng: &mut Rng, side: usize) -> Layout {
 }
 
 fn grow_field(rng: &mut Rng) -> Call {
-    let side = side(rng);
+    let side = random_side(rng);
     Call::GrowField {
         topology: random_topology(rng, side),
         layout: layout(rng, side),
-        seeds: seeds(rng, side),
+        seeds: random_seeds(rng, side),
         hops: hops(rng, side),
         lent: rooms::random(rng, words_needed(side)),
     }
@@ -200,7 +200,7 @@ fn close(rng: &mut Rng) -> Call {
     };
     let nodes = total(&layout).min(1 << 20);
     Call::Close {
-        selected: seeds(rng, nodes),
+        selected: random_seeds(rng, nodes),
         out: rooms::room(rng, words_needed(nodes)),
         layout,
     }

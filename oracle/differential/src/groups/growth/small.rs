@@ -24,13 +24,13 @@ pub fn run(run: &mut dyn FnMut(Call)) {
     all_fields_of_four(run);
 }
 
-fn each_graph(side: usize, work: &mut dyn FnMut(&Topology)) {
+pub fn each_graph(side: usize, work: &mut dyn FnMut(&Topology)) {
     for chosen in 0..1 << (side * side) {
         work(&of_pairs(side, side, &pairs_of(side, chosen)));
     }
 }
 
-fn each_mask(len: usize, work: &mut dyn FnMut(&Mask)) {
+pub fn each_mask(len: usize, work: &mut dyn FnMut(&Mask)) {
     for bits in 0..1 << len {
         let mut mask = mask_of(len, &[]);
         if len > 0 {

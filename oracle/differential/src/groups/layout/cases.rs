@@ -42,15 +42,19 @@ pub fn blocks(list: &[Block]) -> Blocks {
 
 /// The blocks with their running totals, whether they are right or not.
 pub fn built(list: &[Block]) -> Layout {
-    let mut total = 0;
-    let mut offsets = vec![0];
-    for block in list {
-        total += u64::from(block.components);
-        offsets.push(total);
-    }
-    Layout {
-        blocks: blocks(list),
-        offsets,
+    Layout::of(blocks(list))
+}
+
+impl Layout {
+    /// These blocks with their running totals.
+    pub fn of(blocks: Blocks) -> Self {
+        let mut total = 0;
+        let mut offsets = vec![0];
+        for &components in &blocks.components {
+            total += u64::from(components);
+            offsets.push(total);
+        }
+        Self { blocks, offsets }
     }
 }
 
