@@ -5,3 +5,4 @@ pub mod Patterns
 pub mod Plans
 pub mod Accepted
 pub mod Prepared
+pub mod Worked

@@ -1,10 +1,10 @@
 -- Numbers and lists in a record of bytes: 8 bytes a number, the lowest first, and 16 numbers a list.
 use mathlib.Core.Bool.{cond}
-use mathlib.Core.List.{List, _++_}
+use mathlib.Core.List.{List}
 use Prim.Native.Nat.{ℕ, zero, suc, _+_, _*_, _/_, _%_}
 use lib.Dec.{leb, ltb}
 use lib.Ieee.{Float, nan, isNan, ofBits, toBits, binary64}
-use lib.ListN.{length, getD, take, drop}
+use lib.ListN.{getD}
 use Rattle.base.specs.Lists.{listFrom}
 
 abbrev pub halfAt : List ℕ → ℕ → ℕ
@@ -45,7 +45,3 @@ shifted n (suc k) = shifted n k / 256
 -- a list's bytes: byte j mod 8 of number j / 8
 unfoldable pub bytesOf : List ℕ → ℕ → List ℕ
 bytesOf list n = listFrom (λ j. shifted (getD list (j / 8) 0) (j % 8) % 256) n 0
-
--- bytes put at a place
-abbrev pub placed : ℕ → List ℕ → List ℕ → List ℕ
-placed at new out = take at out ++ new ++ drop (at + length new) out

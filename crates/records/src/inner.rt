@@ -2,8 +2,9 @@
 ghost use mathlib.Core.Path.{_≡_};
 ghost use Prim.Native.Nat.{_+_, _*_, _%_, _<_, _≤_};
 ghost use lib.ListN.{length, getD};
+ghost use Rattle.base.specs.Lists.{placed};
 ghost use Rattle.base.specs.Sets.{one-if};
-ghost use Rattle.records.specs.Bytes.{halfAt, numberAt, countAt, countWithin, listAt, narrowAt, realOf, bitsOf, bytesOf, placed};
+ghost use Rattle.records.specs.Bytes.{halfAt, numberAt, countAt, countWithin, listAt, narrowAt, realOf, bitsOf, bytesOf};
 ghost use mathlib.Core.List.{[], _∷_};
 
 pub fn byte_at(call: &[u8], at: usize) -> u64

@@ -1,2 +1,3 @@
 pub mod Repeating
 pub mod Rewriting
+pub mod Holding

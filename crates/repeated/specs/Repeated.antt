@@ -1,4 +1,4 @@
--- A repeated growth answers the hops that one growth completes, a repeated pattern or gather the count of pairs.
+-- A repeated growth answers the hops that one growth completes, a repeated pattern or gather the count of pairs, a repeated plan that of sources.
 use mathlib.Core.Bool.{true, false}
 use Prim.Native.Nat.{ℕ}
 use Rattle.base.specs.declared.Refusal.{Refusal}
@@ -6,6 +6,7 @@ use Rattle.base.specs.declared.Counted.{Counted}
 use Rattle.region.specs.declared.RegionGrown.{RegionGrown}
 use Rattle.field_region.specs.declared.FieldGrown.{FieldGrown}
 use Rattle.pattern.specs.declared.PatternExtracted.{PatternExtracted}
+use Rattle.numeric_plan.specs.declared.PlanPrepared.{PlanPrepared}
 use Rattle.repeated.specs.declared.Answer.{Answer}
 
 abbrev pub valueAnswer : ℕ → Answer
@@ -25,6 +26,10 @@ fieldHopsAnswer (FieldGrown.Refused r) = refusedAnswer r
 unfoldable pub pairsAnswer : PatternExtracted → Answer
 pairsAnswer (PatternExtracted.Extracted s) = valueAnswer (s .«local_nnz»)
 pairsAnswer (PatternExtracted.Refused r) = refusedAnswer r
+
+unfoldable pub sourcesAnswer : PlanPrepared → Answer
+sourcesAnswer (PlanPrepared.Prepared s) = valueAnswer (s .«source_terms»)
+sourcesAnswer (PlanPrepared.Refused r) = refusedAnswer r
 
 unfoldable pub countAnswer : Counted → Answer
 countAnswer (Counted.Count k) = valueAnswer k

@@ -1,5 +1,5 @@
-// For the benchmark only: a growth, a pattern or a gather made many times after one check of its inputs, so that its own time can be told from
-// the time of the checks. It leaves and answers what one call does. No part of the static library.
+// For the benchmark only: a growth, a pattern, a plan or a gather made many times after one check of its inputs, so that its own time can be told
+// from the time of the checks. It leaves and answers what one call does. No part of the static library.
 use base::Refusal;
 use field_region::BlocksGrown;
 use field_region::FieldGrown;
@@ -22,7 +22,7 @@ ghost use Rattle.repeated.specs.Repeated.{hopsAnswer, fieldHopsAnswer};
 
 pub mod local;
 
-// The value: the hops completed, or the count of pairs.
+// The value: the hops completed, or the count of pairs or of sources.
 #[repr(C)]
 pub struct Answer {
     pub number: u32,

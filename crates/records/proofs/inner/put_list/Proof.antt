@@ -1,11 +1,13 @@
 -- `records::inner::put_list` meets its contract. The invariant: the bytes of the first k numbers are put. Assumes nothing.
-use mathlib.Core.Path.{_≡_, refl, ap, ap₂, _∙_}
+use mathlib.Core.Path.{_≡_, refl, sym, ap, ap₂, _∙_}
 use mathlib.Core.List.{List, [], _∷_}
 use Prim.Native.Nat.{ℕ, _+_, _-_, _*_, _≤_}
 use native.Mathlib.Omega.{arith}
 use lib.ListN.{length, getD}
-use Rattle.records.specs.Bytes.{bytesOf, placed}
-use Rattle.records.proofs.Placed.{placed-none, placed-on, bytes-length, bytes-none, number-next}
+use Rattle.base.specs.Lists.{placed}
+use Rattle.base.proofs.Lists.{placed-none, placed-more}
+use Rattle.records.specs.Bytes.{bytesOf}
+use Rattle.records.proofs.Bytes.{bytes-length, bytes-none, number-next}
 use borrow.Author.Needs.{needs}
 use Rattle.records.proofs.inner.put_list.Statement.{statement}
 use Rattle.records.proofs.inner.put_list.Tie as tie
@@ -17,7 +19,7 @@ abbrev μ-loop : tie.MeasureT-loop
 μ-loop out₀ at list k₀ out k = length list - k
 
 loop-holds : tie.Need-loop-holds Inv-loop μ-loop
-loop-holds c = let s = c .before .before .args in (omega arith, refl, placed-none (s .at) (s .out .now) ∙ ap (λ (x : List ℕ). placed (s .at) x (s .out .now)) (bytes-none (s .list .now)))
+loop-holds c = let s = c .before .before .args in (omega arith, refl, sym (placed-none (s .at) (s .out .now)) ∙ ap (λ (x : List ℕ). placed (s .at) x (s .out .now)) (bytes-none (s .list .now)))
 
 mul-put-number : tie.Need-mul-put-number Inv-loop μ-loop
 mul-put-number c = search needs
@@ -54,7 +56,7 @@ loop-again c =
       c .before .before .put-number .kept .0 ∙ l .inv .1,
       c .before .before .put-number .ensures
           ∙ ap₂ (λ (i : ℕ) (x : List ℕ). placed i (bytesOf (getD xs (l .k) 0 ∷ []) 8) x) here (l .inv .2)
-          ∙ placed-on at o X (omega (arith, n, s .pre .0, s .pre .1, c .before .before .before .before .before .loop-test .taken)) (bytesOf (getD xs (l .k) 0 ∷ []) 8)
+          ∙ placed-more at X (bytesOf (getD xs (l .k) 0 ∷ []) 8) o (omega (arith, n, s .pre .0, s .pre .1, c .before .before .before .before .before .loop-test .taken))
           ∙ ap (λ (x : List ℕ). placed at x o) (number-next xs (l .k)),
     )
 

@@ -1,11 +1,13 @@
 -- `records::inner::put_number` meets its contract. The invariant: the first k bytes are put. Assumes nothing.
-use mathlib.Core.Path.{_≡_, refl, ap, ap₂, _∙_}
+use mathlib.Core.Path.{_≡_, refl, sym, ap, ap₂, _∙_}
 use mathlib.Core.List.{List, [], _∷_}
 use Prim.Native.Nat.{ℕ, _+_, _-_, _/_, _%_, _≤_}
 use native.Mathlib.Omega.{arith}
 use lib.ListN.{length, set, length-set}
-use Rattle.records.specs.Bytes.{shifted, bytesOf, placed}
-use Rattle.records.proofs.Placed.{placed-none, placed-one, bytes-length, bytes-none, byte-next, shift-next, shift-none}
+use Rattle.base.specs.Lists.{placed}
+use Rattle.base.proofs.Lists.{placed-none, placed-next}
+use Rattle.records.specs.Bytes.{shifted, bytesOf}
+use Rattle.records.proofs.Bytes.{bytes-length, bytes-none, byte-next, shift-next, shift-none}
 use borrow.Author.Needs.{needs}
 use Rattle.records.proofs.inner.put_number.Statement.{statement}
 use Rattle.records.proofs.inner.put_number.Tie as tie
@@ -17,7 +19,7 @@ abbrev μ-loop : tie.MeasureT-loop
 μ-loop out₀ at value left₀ k₀ out left k = 8 - k
 
 loop-holds : tie.Need-loop-holds Inv-loop μ-loop
-loop-holds c = (omega arith, refl, shift-none _, placed-none (c .args .at) (c .args .out .now) ∙ ap (λ (x : List ℕ). placed (c .args .at) x (c .args .out .now)) (bytes-none (c .args .value ∷ [])))
+loop-holds c = (omega arith, refl, shift-none _, sym (placed-none (c .args .at) (c .args .out .now)) ∙ ap (λ (x : List ℕ). placed (c .args .at) x (c .args .out .now)) (bytes-none (c .args .value ∷ [])))
 
 cast-out : tie.Need-cast-out Inv-loop μ-loop
 cast-out c = search needs
@@ -46,7 +48,7 @@ loop-again c =
       length-set (l .out) (s .args .at + l .k) _ ∙ l .inv .1,
       ap (λ (x : ℕ). x / 256) (l .inv .2) ∙ shift-next (s .args .value) (l .k),
       ap₂ (λ (x : List ℕ) (i : ℕ). set x i (l .left % 256)) (l .inv .3) here
-          ∙ placed-one (s .args .at) o X (omega (arith, n, s .pre, c .loop-test .taken)) (l .left % 256) (omega (arith, n, s .pre, c .loop-test .taken))
+          ∙ placed-next (s .args .at) X o (l .left % 256) 0 (omega (arith, n, s .pre, c .loop-test .taken))
           ∙ ap (λ (x : List ℕ). placed (s .args .at) x o) (byte-next (s .args .value) (l .k) (l .left) (c .loop-test .taken) (l .inv .2)),
     )
 

@@ -1,57 +1,14 @@
--- Bytes put at a place, one after the other. Assumes nothing.
+-- The bytes of a number and of a list, with one more. Assumes nothing.
 use mathlib.Core.Path.{_≡_, refl, sym, ap, ap₂, _∙_}
-use mathlib.Core.List.{List, [], _∷_, _++_, append-assoc, append-nil}
-use Prim.Native.Nat.{ℕ, suc, _+_, _*_, _/_, _%_, _≤_, _<_}
+use mathlib.Core.List.{List, [], _∷_, _++_}
+use Prim.Native.Nat.{ℕ, _+_, _*_, _/_, _%_, _<_}
 use native.Mathlib.Omega.{arith}
-use native.Mathlib.Nat.{add-zero}
 use native.Mathlib.Numerals.{add-one}
-use lib.ListN.{length, getD, set, take, drop, length-append, length-drop, take-append-drop}
-use lib.Seq.{drop-cons, drop-drop, set-at, ext-getD, length-take-le, take-append-seam, drop-append-add}
+use lib.ListN.{length, getD}
+use lib.Seq.{ext-getD}
 use Rattle.base.specs.Lists.{listFrom}
 use Rattle.base.proofs.Lists.{length-listFrom, getD-listFrom, listFrom-append}
-use Rattle.records.specs.Bytes.{shifted, bytesOf, placed}
-
-module _ (at : ℕ) (o : List ℕ) where
-  -- nothing is put
-  pub placed-none : o ≡ placed at [] o
-  placed-none = sym (ap₂ (λ (l : List ℕ) (k : ℕ). l ++ drop k o) (append-nil (take at o)) (add-zero at) ∙ take-append-drop at o)
-
-  module _ (X : List ℕ) (room : at + length X ≤ length o) where
-    front : length (take at o ++ X) ≡ at + length X
-    front = length-append (take at o) X ∙ ap (λ (n : ℕ). n + length X) (length-take-le at o (omega arith))
-
-    pub placed-length : length (placed at X o) ≡ length o
-    placed-length = length-append (take at o ++ X) (drop (at + length X) o) ∙ omega (arith, front, length-drop (at + length X) o)
-
-    -- more bytes after those that are put
-    pub placed-on : (Y : List ℕ) → placed (at + length X) Y (placed at X o) ≡ placed at (X ++ Y) o
-    placed-on Y =
-        ap₂ (λ (l r : List ℕ). (l ++ Y) ++ r) first last
-        ∙ ap₂ (λ (l : List ℕ) (n : ℕ). l ++ drop n o) (append-assoc (take at o) X Y) same
-      where
-        same : at + length X + length Y ≡ at + length (X ++ Y)
-        same = omega (arith, length-append X Y)
-
-        first : take (at + length X) (placed at X o) ≡ take at o ++ X
-        first = ap (λ (n : ℕ). take n (placed at X o)) (sym front) ∙ take-append-seam (take at o ++ X) (drop (at + length X) o)
-
-        last : drop (at + length X + length Y) (placed at X o) ≡ drop (at + length X + length Y) o
-        last =
-            ap (λ (n : ℕ). drop (n + length Y) (placed at X o)) (sym front) ∙ drop-append-add (take at o ++ X) (drop (at + length X) o) (length Y)
-            ∙ drop-drop (length Y) (at + length X) o
-
-    -- one more
-    pub placed-one : (v : ℕ) → at + length X < length o → set (placed at X o) (at + length X) v ≡ placed at (X ++ (v ∷ [])) o
-    placed-one v h =
-        ap (λ (l : List ℕ). set ((take at o ++ X) ++ l) (at + length X) v) (drop-cons o (at + length X) 0 h)
-        ∙ set-at (take at o ++ X) (getD o (at + length X) 0) (drop (suc (at + length X)) o) v (at + length X) front
-        ∙ sym (append-assoc (take at o ++ X) (v ∷ []) (drop (suc (at + length X)) o))
-        ∙ ap₂ (λ (l : List ℕ) (n : ℕ). l ++ drop n o) (append-assoc (take at o) X (v ∷ [])) same
-      where
-        same : suc (at + length X) ≡ at + length (X ++ (v ∷ []))
-        same = omega (arith, length-append X (v ∷ []))
-
--- ---- the bytes of a list
+use Rattle.records.specs.Bytes.{shifted, bytesOf}
 
 pub bytes-length : (l : List ℕ) (n : ℕ) → length (bytesOf l n) ≡ n
 unfolding bytesOf
