@@ -1,3 +1,4 @@
+pub mod Runs
 pub mod Seen
 pub mod Rows
 pub mod Sources

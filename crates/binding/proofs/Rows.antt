@@ -1,10 +1,10 @@
 -- The faults of one row, from the mask that its entries filled, and of the members' rows one after the other. Assumes nothing.
-use mathlib.Core.Path.{_≡_, sym, ap, _∙_, subst}
+use mathlib.Core.Path.{_≡_, refl, sym, ap, _∙_, subst}
 use mathlib.Core.Bool.{Bool, true, false, not, _&&_, _||_, and-assoc}
 use mathlib.Core.List.{List}
 use Prim.Native.Nat.{ℕ, _+_, _-_, _≤_, _<_}
 use native.Mathlib.Omega.{arith}
-use lib.Dec.{T}
+use lib.Dec.{T, T-not}
 use lib.ListN.{length, getD, take, replicate, length-replicate, replicate-append-replicate}
 use lib.Seq.{slice, take-at}
 use Rattle.base.specs.Checks.{sideLimit, plain, checksBelow}
@@ -13,9 +13,9 @@ use Rattle.base.specs.Sets.{anyBelow, countBelow}
 use Rattle.base.specs.declared.Refusal.{Refusal}
 use Rattle.base.specs.declared.Checked.{Checked}
 use Rattle.base.specs.declared.Checked.the-variants.{Accepted, Refused}
-use Rattle.base.proofs.Bools.{and-l}
+use Rattle.base.proofs.Bools.{and-l, and-r}
 use Rattle.base.proofs.Checks.{pass, stop, last-pass, last-stop, checks-none, checks-next, checks-stop}
-use Rattle.base.proofs.Sets.{any-cong, count-member, getD-count}
+use Rattle.base.proofs.Sets.{any-cong, any-none, count-member, getD-count}
 use Rattle.mask.specs.Mask.{inMask, wordsFor, maskWords, IsMask}
 use Rattle.mask.proofs.Masks.{mask-holds, mask-none, is-of}
 use Rattle.mask.proofs.Nexts.{Next}
@@ -82,6 +82,17 @@ module _ (n : ℕ) (p pairs entries : ℕ → Bool) (missing extra : Bool) (m : 
   pub row-fine : missing ≡ false → extra ≡ false → x ≡ Accepted → x ≡ rowFaults n p pairs entries
   unfolding rowFaults
   row-fine f g h = pass _ 23 x _ (ap not (sym m ∙ f)) (last-pass _ 24 x (ap not (sym e ∙ g)) h)
+
+-- ---- a row whose pairs are its entries
+
+none-lacks : (n : ℕ) (p a b : ℕ → Bool) → ((c : ℕ) → c < n → a c ≡ b c) → not (anyBelow n (λ c. p c && a c && not (b c))) ≡ true
+none-lacks n p a b same =
+    ap not (any-none n (λ c. p c && a c && not (b c))
+    (λ c l t. T-not (b c) (and-r (p c && a c) (not (b c)) t) (subst (λ (x : Bool). T x) (same c l) (and-r (p c) (a c) (and-l (p c && a c) (not (b c)) t)))))
+
+pub row-agrees : (n : ℕ) (p a b : ℕ → Bool) → ((c : ℕ) → c < n → a c ≡ b c) → rowFaults n p a b ≡ Accepted
+unfolding rowFaults
+row-agrees n p a b same = sym (pass _ 23 Accepted _ (none-lacks n p a b same) (last-pass _ 24 Accepted (none-lacks n p b a (λ c l. sym (same c l))) refl))
 
 -- ---- the members' rows
 

@@ -1,13 +1,16 @@
-// Whether a region's pairs and a matrix's entries bind, row by row, for callers that have checked: no part of the API. A row's entries are
-// collected in a mask, `seen`, that is empty before and after each row, so a row costs its words and its entries.
+// Whether a region's pairs and a matrix's entries bind, row by row, for callers that have checked: no part of the API. A row whose words are its
+// entries in order is settled by reading both once. The entries of any other are collected in a mask, `seen`, that is empty before and after each
+// row. Either way a row costs its words and its entries.
+use crate::Run;
 use base::Checked;
 use word::AbtmTopologyWord;
 ghost use mathlib.Core.Path.{_≡_};
-ghost use mathlib.Core.Bool.{false, not, _&&_, _||_};
-ghost use Prim.Native.Nat.{ℕ, _+_, _-_, _<_};
+ghost use mathlib.Core.Bool.{true, false, not, _&&_, _||_};
+ghost use Prim.Native.Nat.{ℕ, _+_, _-_, _≤_, _<_};
 ghost use lib.Dec.{T};
-ghost use lib.ListN.{getD};
+ghost use lib.ListN.{length, getD};
 ghost use lib.Seq.{slice};
+ghost use Rattle.base.specs.Checks.{entryLimit};
 ghost use Rattle.base.specs.Lists.{isIn};
 ghost use Rattle.base.specs.Sets.{anyBelow, countBelow};
 ghost use Rattle.mask.specs.Mask.{inMask, maskWords, IsMask};
@@ -15,7 +18,53 @@ ghost use Rattle.csr32.specs.Matrix.{stored, IsMatrix};
 ghost use Rattle.side.specs.Side.{sideHolds};
 ghost use Rattle.side.specs.Check.{IsSide};
 ghost use Rattle.binding.specs.Binding.{rowFaults, bindingCheck};
-ghost use Rattle.binding.specs.Steps.{Entries, sourcesInside};
+ghost use Rattle.binding.specs.Steps.{Entries, RunOf, sourcesInside};
+
+// The entries from `from` on that lie in the word, up to the first that does not: their bits, and where they end.
+fn take_word(col_idx: &[u32], from: usize, to: usize, word: usize) -> Run
+    requires { ⌜ (from ≤ to) × (to ≤ length (now «col_idx»)) × (length (now «col_idx») ≤ entryLimit) ⌝ }
+    ensures { λ r. ⌜ RunOf (now («col_idx» .entry)) from to word r ⌝ }
+{
+    let mut bits: u64 = 0;
+    let mut e = from;
+    while e < to {
+        let c = col_idx[e] as usize;
+        if c / AbtmTopologyWord::BITS != word {
+            return Run { bits, end: e };
+        }
+        bits |= 1u64 << (c % AbtmTopologyWord::BITS);
+        e += 1;
+    }
+    Run { bits, end: e }
+}
+
+// Whether row r's words are its entries, read once: so it is where the row rises and the topology is the matrix's own. A no says nothing.
+fn row_same(
+    n: usize,
+    row_word_ptr: &[u32],
+    word_indices: &[u32],
+    masks: &[u64],
+    row_ptr: &[u32],
+    col_idx: &[u32],
+    r: usize,
+) -> bool
+    requires { ⌜ IsSide n n (now «row_word_ptr») (now «word_indices») (now masks) × IsMatrix n n (now «row_ptr») (now «col_idx») × (r < n) ⌝ }
+    ensures { λ b. ⌜ (b ≡ true → (c : ℕ) → c < n → sideHolds (now («row_word_ptr» .entry)) (now («word_indices» .entry)) (now (masks .entry)) r c ≡ stored (now («row_ptr» .entry)) (now («col_idx» .entry)) r c) ⌝ }
+{
+    let to = row_word_ptr[r + 1] as usize;
+    let end = row_ptr[r + 1] as usize;
+    let mut k = row_word_ptr[r] as usize;
+    let mut e = row_ptr[r] as usize;
+    while k < to {
+        let run = take_word(col_idx, e, end, word_indices[k] as usize);
+        if run.bits != masks[k] {
+            return false;
+        }
+        e = run.end;
+        k += 1;
+    }
+    e == end
+}
 
 // The columns of the entries from..to join the mask.
 fn add_entries(n: usize, col_idx: &[u32], from: usize, to: usize, seen: &mut [u64])
@@ -82,7 +131,7 @@ fn drain(
     extra != 0
 }
 
-// 23, then 24, of row r: what its words do not take from its entries is missing from the topology.
+// 23, then 24, of row r: none where its words are its entries; else what they do not take from its entries is missing from the topology.
 fn check_row(
     n: usize,
     row_word_ptr: &[u32],
@@ -98,6 +147,9 @@ fn check_row(
     ensures { λ b. ⌜ b ≡ rowFaults n (inMask (now (region .entry))) (sideHolds (now («row_word_ptr» .entry)) (now («word_indices» .entry)) (now (masks .entry)) r) (stored (now («row_ptr» .entry)) (now («col_idx» .entry)) r) ⌝ }
     ensures { λ _. ⌜ now (seen .exit) ≡ maskWords n (λ i. false) ⌝ }
 {
+    if row_same(n, row_word_ptr, word_indices, masks, row_ptr, col_idx, r) {
+        return Checked::Accepted;
+    }
     let from = row_ptr[r] as usize;
     let to = row_ptr[r + 1] as usize;
     add_entries(n, col_idx, from, to, seen);
