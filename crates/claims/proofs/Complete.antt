@@ -26,7 +26,8 @@ use Rattle.graph.specs.Network.{Network, linked, seeded, frontierWords}
 use Rattle.graph.proofs.Distances.{within-iff, distance-iff}
 use Rattle.graph.proofs.Networks.{region-at}
 use Rattle.pattern.specs.Pattern.{memberAt, patternRoom, pairsInside, regionCheck, patternCheck}
-use Rattle.binding.specs.Binding.{rowFaults, bindingCheck}
+use Rattle.binding.specs.Binding.{bindingCheck}
+use Rattle.binding.proofs.Rows.{row-agrees}
 use Rattle.gather.specs.Gather.{sumOf, gathered, gatherCheck}
 use Rattle.gather.specs.Plan.{planSources, planPtr, direct}
 use Rattle.gather.proofs.Plans.{pointers-length, gathered-lists}
@@ -41,19 +42,11 @@ use Rattle.claims.proofs.Pairs.{listed-pairs}
 
 -- ---- 23 and 24 refuse no topology that has the matrix's pairs
 
-none-lacks : (n : ℕ) (p a b : ℕ → Bool) → ((c : ℕ) → c < n → a c ≡ b c) → not (anyBelow n (λ c. p c && a c && not (b c))) ≡ true
-none-lacks n p a b same = ap not (any-none n (λ c. p c && a c && not (b c)) (λ c l t. go (a c) (b c) (same c l) (and-r (p c) (a c) (and-l (p c && a c) (not (b c)) t)) (and-r (p c && a c) (not (b c)) t)))
-  where
-    go : (x y : Bool) → x ≡ y → T x → T (not y) → ⊥
-    go true true e t u = u
-    go true false e t u = let z : _≡_ {A = ℕ} 0 1 = cc in omega arith
-    go false y e t u = t
-
 binding-accepted : (n : ℕ) (p : ℕ → Bool) (s t : ℕ → ℕ → Bool) → ((r c : ℕ) → r < n → c < n → s r c ≡ t r c) → bindingCheck n p s t ≡ Checked.Accepted
-unfolding bindingCheck rowFaults
+unfolding bindingCheck
 binding-accepted n p s t same =
     checks-all (countBelow n p) _ (λ k l. let m = member k l in
-    sym (pass _ _ _ _ (none-lacks n p (s (memberAt n p k)) (t (memberAt n p k)) (λ c h. same (memberAt n p k) c m h)) (last-pass _ _ _ (none-lacks n p (t (memberAt n p k)) (s (memberAt n p k)) (λ c h. sym (same (memberAt n p k) c m h))) refl)))
+    row-agrees n p (s (memberAt n p k)) (t (memberAt n p k)) (λ c h. same (memberAt n p k) c m h))
   where
     member : (k : ℕ) → k < countBelow n p → memberAt n p k < n
     member k l = omega (arith, members-at p 0 n k (omega (arith, count-members n p)))

@@ -4,5 +4,9 @@ pub mod Pairs
 pub mod Complete
 pub mod Demand
 pub mod Built
-pub mod Table
+pub mod Growing
 pub mod Cutting
+pub mod Finishing
+pub mod Checking
+pub mod Held
+pub mod Table

@@ -1,3 +1,5 @@
 pub mod Runs
 pub mod Demand
+pub mod Counts
 pub mod Cutting
+pub mod Run
