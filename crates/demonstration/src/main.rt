@@ -1,4 +1,6 @@
-// Prints document 01's own examples of words, matrices, masks, layouts, topologies and regions, as the port answers them.
+// Prints document 01's own examples of words, matrices, masks, layouts, topologies and regions, as the port answers them, and one list of growths.
+use base::Counted;
+use claims::RunAnswer;
 use hybit_matrix::Answer;
 use libc::STDOUT_FILENO;
 
@@ -186,6 +188,13 @@ fn members(what: &[u8], words: &[u64]) {
     io::write_all(STDOUT_FILENO, b"\n");
 }
 
+fn digit(yes: bool) -> u64 {
+    if yes {
+        return 1;
+    }
+    0
+}
+
 fn figure(what: &[u8], value: u64) {
     io::write_all(STDOUT_FILENO, what);
     io::write_all(STDOUT_FILENO, b": ");
@@ -277,6 +286,67 @@ fn regions() {
     );
 }
 
+// The list of growths by 1, by 5 and by 1 from seed 0, of which the second is lent no words and is refused; then the local system of the region.
+fn runs() {
+    let mut seeds = [1u64; 1];
+    let mut region = [0u64; 1];
+    let mut frontier = [0u64; 1];
+    let mut scratch = [0u64; 1];
+    let mut nodes = [0u32; 3];
+    let mut ptr = [0u32; 4];
+    let mut cols = [0u32; 2];
+    let mut starts = [0u32; 3];
+    let mut sources = [0u32; 2];
+    let mut values = [0.0f64; 2];
+    let answer = claims::run_growths(
+        3,
+        3,
+        &[0, 1, 2, 2],
+        &[0, 0],
+        &[2, 4],
+        2,
+        3,
+        3,
+        &[0, 0, 1, 2],
+        &[0, 0],
+        &[1, 2],
+        2,
+        3,
+        3,
+        &[0, 1, 2, 2],
+        &[1, 2],
+        &[1.0, 1.0],
+        3,
+        &mut seeds,
+        &[1, 5, 1],
+        &[1, 0, 1],
+        &[0.5, 0.25],
+        &mut region,
+        &mut frontier,
+        &mut scratch,
+        &mut nodes,
+        &mut ptr,
+        &mut cols,
+        &mut starts,
+        &mut sources,
+        &mut values,
+    );
+    if let RunAnswer::Grown(ran, cut) = answer {
+        figure(b"growths by 1, 5 (refused) and 1, accepted", ran.accepted);
+        figure(b"their total", ran.total);
+        members(b"the region then", &region);
+        members(b"the frontier then", &frontier);
+        let gathered = cut.gathered;
+        if let Counted::Count(pairs) = gathered {
+            figure(b"gathered values", pairs);
+        }
+        figure(
+            b"0.5 and 0.25, bit for bit",
+            digit(values[0] == 0.5 && values[1] == 0.25),
+        );
+    }
+}
+
 fn main() {
     words();
     matrices();
@@ -284,4 +354,5 @@ fn main() {
     layouts();
     refused_layouts();
     regions();
+    runs();
 }
