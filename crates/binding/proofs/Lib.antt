@@ -1,4 +1,5 @@
-pub mod Runs
+pub mod Answers
 pub mod Seen
 pub mod Rows
 pub mod Sources
+pub mod Runs

@@ -1,6 +1,11 @@
-// Whether a region's pairs and a matrix's entries bind, row by row, for callers that have checked: no part of the API. A row whose words are its
-// entries in order is settled by reading both once. The entries of any other are collected in a mask, `seen`, that is empty before and after each
-// row. Either way a row costs its words and its entries.
+// Whether a region's pairs and a matrix's entries bind, row by row, and how many there are, for callers that have checked: no part of the API. A
+// row whose words are its entries in order is settled and counted by reading both once. The entries of any other are collected in a mask, `seen`,
+// that is empty before and after each row. Either way a row costs its words and its entries.
+use crate::Binding;
+use crate::Counts;
+use crate::RowBinding;
+use crate::RowCounts;
+use crate::RowRun;
 use crate::Run;
 use base::Checked;
 use word::AbtmTopologyWord;
@@ -10,60 +15,93 @@ ghost use Prim.Native.Nat.{ℕ, _+_, _-_, _≤_, _<_};
 ghost use lib.Dec.{T};
 ghost use lib.ListN.{length, getD};
 ghost use lib.Seq.{slice};
-ghost use Rattle.base.specs.Checks.{entryLimit};
+ghost use Rattle.base.specs.Checks.{entryLimit, after};
 ghost use Rattle.base.specs.Lists.{isIn};
 ghost use Rattle.base.specs.Sets.{anyBelow, countBelow};
 ghost use Rattle.mask.specs.Mask.{inMask, maskWords, IsMask};
 ghost use Rattle.csr32.specs.Matrix.{stored, IsMatrix};
 ghost use Rattle.side.specs.Side.{sideHolds};
 ghost use Rattle.side.specs.Check.{IsSide};
+ghost use Rattle.pattern.specs.Pattern.{inside};
 ghost use Rattle.binding.specs.Binding.{rowFaults, bindingCheck};
-ghost use Rattle.binding.specs.Steps.{Entries, RunOf, sourcesInside};
+ghost use Rattle.binding.specs.Steps.{Entries, RunOf, rowSources, rowCounts, countsOf};
 
-// The entries from `from` on that lie in the word, up to the first that does not: their bits, and where they end.
-fn take_word(col_idx: &[u32], from: usize, to: usize, word: usize) -> Run
+// The entries from `from` on that lie in the word, up to the first that does not; `inside` is the region's word. A column is a pair at its first
+// entry, where its bit is not yet taken. No branch tells a member and no bits are counted at the end: the members of a region follow no order, and
+// the baseline x86-64 has no popcount.
+fn take_word(col_idx: &[u32], from: usize, to: usize, word: usize, inside: u64) -> Run
     requires { ⌜ (from ≤ to) × (to ≤ length (now «col_idx»)) × (length (now «col_idx») ≤ entryLimit) ⌝ }
-    ensures { λ r. ⌜ RunOf (now («col_idx» .entry)) from to word r ⌝ }
+    ensures { λ r. ⌜ RunOf (now («col_idx» .entry)) from to word inside r ⌝ }
 {
     let mut bits: u64 = 0;
+    let mut pairs: usize = 0;
+    let mut sources: usize = 0;
     let mut e = from;
     while e < to {
         let c = col_idx[e] as usize;
         if c / AbtmTopologyWord::BITS != word {
-            return Run { bits, end: e };
+            return Run {
+                bits,
+                end: e,
+                pairs,
+                sources,
+            };
         }
-        bits |= 1u64 << (c % AbtmTopologyWord::BITS);
+        let b = c % AbtmTopologyWord::BITS;
+        sources += ((inside >> b) % 2) as usize;
+        pairs += (((inside & !bits) >> b) % 2) as usize;
+        bits |= 1u64 << b;
         e += 1;
     }
-    Run { bits, end: e }
+    Run {
+        bits,
+        end: e,
+        pairs,
+        sources,
+    }
 }
 
-// Whether row r's words are its entries, read once: so it is where the row rises and the topology is the matrix's own. A no says nothing.
-fn row_same(
+// Whether row r's words are its entries, and what it holds inside the region, both read once: so it is where the row rises and the topology is the
+// matrix's own. A no says nothing.
+fn follow_row(
     n: usize,
     row_word_ptr: &[u32],
     word_indices: &[u32],
     masks: &[u64],
     row_ptr: &[u32],
     col_idx: &[u32],
+    region: &[u64],
     r: usize,
-) -> bool
-    requires { ⌜ IsSide n n (now «row_word_ptr») (now «word_indices») (now masks) × IsMatrix n n (now «row_ptr») (now «col_idx») × (r < n) ⌝ }
-    ensures { λ b. ⌜ (b ≡ true → (c : ℕ) → c < n → sideHolds (now («row_word_ptr» .entry)) (now («word_indices» .entry)) (now (masks .entry)) r c ≡ stored (now («row_ptr» .entry)) (now («col_idx» .entry)) r c) ⌝ }
+) -> RowRun
+    requires { ⌜ IsSide n n (now «row_word_ptr») (now «word_indices») (now masks) × IsMatrix n n (now «row_ptr») (now «col_idx») × IsMask n (now region) × (r < n) ⌝ }
+    ensures { λ k. ⌜ (k .same ≡ true → ((c : ℕ) → c < n → sideHolds (now («row_word_ptr» .entry)) (now («word_indices» .entry)) (now (masks .entry)) r c ≡ stored (now («row_ptr» .entry)) (now («col_idx» .entry)) r c) × (k .pairs ≡ countBelow n (inside (inMask (now (region .entry))) (sideHolds (now («row_word_ptr» .entry)) (now («word_indices» .entry)) (now (masks .entry))) r)) × (k .sources ≡ rowSources (inMask (now (region .entry))) (now («row_ptr» .entry)) (now («col_idx» .entry)) r)) ⌝ }
 {
     let to = row_word_ptr[r + 1] as usize;
     let end = row_ptr[r + 1] as usize;
+    let mut pairs: usize = 0;
+    let mut sources: usize = 0;
     let mut k = row_word_ptr[r] as usize;
     let mut e = row_ptr[r] as usize;
     while k < to {
-        let run = take_word(col_idx, e, end, word_indices[k] as usize);
+        let w = word_indices[k] as usize;
+        let run = take_word(col_idx, e, end, w, region[w]);
         if run.bits != masks[k] {
-            return false;
+            return RowRun {
+                same: false,
+                pairs,
+                sources,
+            };
         }
+        pairs += run.pairs;
+        sources += run.sources;
         e = run.end;
         k += 1;
     }
-    e == end
+    RowRun {
+        same: e == end,
+        pairs,
+        sources,
+    }
 }
 
 // The columns of the entries from..to join the mask.
@@ -131,7 +169,7 @@ fn drain(
     extra != 0
 }
 
-// 23, then 24, of row r: none where its words are its entries; else what they do not take from its entries is missing from the topology.
+// 23, then 24, of row r: what its words do not take from its entries is missing from the topology.
 fn check_row(
     n: usize,
     row_word_ptr: &[u32],
@@ -147,9 +185,6 @@ fn check_row(
     ensures { λ b. ⌜ b ≡ rowFaults n (inMask (now (region .entry))) (sideHolds (now («row_word_ptr» .entry)) (now («word_indices» .entry)) (now (masks .entry)) r) (stored (now («row_ptr» .entry)) (now («col_idx» .entry)) r) ⌝ }
     ensures { λ _. ⌜ now (seen .exit) ≡ maskWords n (λ i. false) ⌝ }
 {
-    if row_same(n, row_word_ptr, word_indices, masks, row_ptr, col_idx, r) {
-        return Checked::Accepted;
-    }
     let from = row_ptr[r] as usize;
     let to = row_ptr[r + 1] as usize;
     add_entries(n, col_idx, from, to, seen);
@@ -162,71 +197,6 @@ fn check_row(
         return base::refused(24);
     }
     Checked::Accepted
-}
-
-// The members' rows in order.
-fn check_members(
-    n: usize,
-    row_word_ptr: &[u32],
-    word_indices: &[u32],
-    masks: &[u64],
-    row_ptr: &[u32],
-    col_idx: &[u32],
-    region: &[u64],
-    seen: &mut [u64],
-) -> Checked
-    requires { ⌜ IsSide n n (now «row_word_ptr») (now «word_indices») (now masks) × IsMatrix n n (now «row_ptr») (now «col_idx») × IsMask n (now region) × (now seen ≡ maskWords n (λ i. false)) ⌝ }
-    ensures { λ b. ⌜ b ≡ bindingCheck n (inMask (now (region .entry))) (sideHolds (now («row_word_ptr» .entry)) (now («word_indices» .entry)) (now (masks .entry))) (stored (now («row_ptr» .entry)) (now («col_idx» .entry))) ⌝ }
-{
-    let mut r = mask::inner::next_member(n, region, 0);
-    while r < n {
-        match check_row(
-            n,
-            row_word_ptr,
-            word_indices,
-            masks,
-            row_ptr,
-            col_idx,
-            region,
-            r,
-            seen,
-        ) {
-            Checked::Refused(f) => {
-                return Checked::Refused(f);
-            }
-            Checked::Accepted => {
-                r = mask::inner::next_member(n, region, r + 1);
-            }
-        }
-    }
-    Checked::Accepted
-}
-
-// The same with an empty mask of its own: 16,384 words hold the 1,048,576 nodes that a matrix has at most.
-pub fn check_rows(
-    n: usize,
-    row_word_ptr: &[u32],
-    word_indices: &[u32],
-    masks: &[u64],
-    row_ptr: &[u32],
-    col_idx: &[u32],
-    region: &[u64],
-) -> Checked
-    requires { ⌜ IsSide n n (now «row_word_ptr») (now «word_indices») (now masks) × IsMatrix n n (now «row_ptr») (now «col_idx») × IsMask n (now region) ⌝ }
-    ensures { λ b. ⌜ b ≡ bindingCheck n (inMask (now (region .entry))) (sideHolds (now («row_word_ptr» .entry)) (now («word_indices» .entry)) (now (masks .entry))) (stored (now («row_ptr» .entry)) (now («col_idx» .entry))) ⌝ }
-{
-    let mut seen: [u64; 16384] = [0; 16384];
-    let need = mask::inner::words_for(n);
-    check_members(
-        n,
-        row_word_ptr,
-        word_indices,
-        masks,
-        row_ptr,
-        col_idx,
-        region,
-        &mut seen[0..need],
-    )
 }
 
 // How many of the entries from..to have their column inside the region.
@@ -245,22 +215,133 @@ fn count_inside(n: usize, region: &[u64], col_idx: &[u32], from: usize, to: usiz
     count
 }
 
-// The entries of the members' rows that have their column inside.
-pub fn count_sources(n: usize, region: &[u64], row_ptr: &[u32], col_idx: &[u32]) -> usize
-    requires { ⌜ IsMatrix n n (now «row_ptr») (now «col_idx») × IsMask n (now region) ⌝ }
-    ensures { λ r. ⌜ r ≡ sourcesInside n (inMask (now (region .entry))) (now («row_ptr» .entry)) (now («col_idx» .entry)) ⌝ }
+// Row r in one pass where its words are its entries; any other is checked, then counted.
+fn settle_row(
+    n: usize,
+    row_word_ptr: &[u32],
+    word_indices: &[u32],
+    masks: &[u64],
+    row_ptr: &[u32],
+    col_idx: &[u32],
+    region: &[u64],
+    r: usize,
+    seen: &mut [u64],
+) -> RowBinding
+    requires { ⌜ IsSide n n (now «row_word_ptr») (now «word_indices») (now masks) × IsMatrix n n (now «row_ptr») (now «col_idx») × IsMask n (now region) × (r < n) × (now seen ≡ maskWords n (λ i. false)) ⌝ }
+    ensures { λ b. ⌜ b ≡ after (rowFaults n (inMask (now (region .entry))) (sideHolds (now («row_word_ptr» .entry)) (now («word_indices» .entry)) (now (masks .entry)) r) (stored (now («row_ptr» .entry)) (now («col_idx» .entry)) r)) (RowBinding.Bound (rowCounts n (inMask (now (region .entry))) (sideHolds (now («row_word_ptr» .entry)) (now («word_indices» .entry)) (now (masks .entry))) (now («row_ptr» .entry)) (now («col_idx» .entry)) r)) RowBinding.Refused ⌝ }
+    ensures { λ _. ⌜ now (seen .exit) ≡ maskWords n (λ i. false) ⌝ }
 {
-    let mut count: usize = 0;
+    let run = follow_row(
+        n,
+        row_word_ptr,
+        word_indices,
+        masks,
+        row_ptr,
+        col_idx,
+        region,
+        r,
+    );
+    if run.same {
+        return RowBinding::Bound(RowCounts {
+            pairs: run.pairs,
+            sources: run.sources,
+        });
+    }
+    match check_row(
+        n,
+        row_word_ptr,
+        word_indices,
+        masks,
+        row_ptr,
+        col_idx,
+        region,
+        r,
+        seen,
+    ) {
+        Checked::Refused(f) => RowBinding::Refused(f),
+        Checked::Accepted => {
+            let from = row_ptr[r] as usize;
+            let to = row_ptr[r + 1] as usize;
+            let row = pattern::inner::count_row(n, row_word_ptr, word_indices, masks, region, r);
+            RowBinding::Bound(RowCounts {
+                pairs: row.kept,
+                sources: count_inside(n, region, col_idx, from, to),
+            })
+        }
+    }
+}
+
+// The members' rows in order, and what they hold.
+fn settle_members(
+    n: usize,
+    row_word_ptr: &[u32],
+    word_indices: &[u32],
+    masks: &[u64],
+    row_ptr: &[u32],
+    col_idx: &[u32],
+    region: &[u64],
+    seen: &mut [u64],
+) -> Binding
+    requires { ⌜ IsSide n n (now «row_word_ptr») (now «word_indices») (now masks) × IsMatrix n n (now «row_ptr») (now «col_idx») × IsMask n (now region) × (now seen ≡ maskWords n (λ i. false)) ⌝ }
+    ensures { λ b. ⌜ b ≡ after (bindingCheck n (inMask (now (region .entry))) (sideHolds (now («row_word_ptr» .entry)) (now («word_indices» .entry)) (now (masks .entry))) (stored (now («row_ptr» .entry)) (now («col_idx» .entry)))) (Binding.Bound (countsOf n (inMask (now (region .entry))) (sideHolds (now («row_word_ptr» .entry)) (now («word_indices» .entry)) (now (masks .entry))) (now («row_ptr» .entry)) (now («col_idx» .entry)))) Binding.Refused ⌝ }
+{
+    let mut members: usize = 0;
+    let mut pairs: usize = 0;
+    let mut sources: usize = 0;
     let mut r = mask::inner::next_member(n, region, 0);
     while r < n {
-        count += count_inside(
+        match settle_row(
             n,
-            region,
+            row_word_ptr,
+            word_indices,
+            masks,
+            row_ptr,
             col_idx,
-            row_ptr[r] as usize,
-            row_ptr[r + 1] as usize,
-        );
-        r = mask::inner::next_member(n, region, r + 1);
+            region,
+            r,
+            seen,
+        ) {
+            RowBinding::Refused(f) => {
+                return Binding::Refused(f);
+            }
+            RowBinding::Bound(row) => {
+                members += 1;
+                pairs += row.pairs;
+                sources += row.sources;
+                r = mask::inner::next_member(n, region, r + 1);
+            }
+        }
     }
-    count
+    Binding::Bound(Counts {
+        members,
+        pairs,
+        sources,
+    })
+}
+
+// The same with an empty mask of its own: 16,384 words hold the 1,048,576 nodes that a matrix has at most.
+pub fn bind(
+    n: usize,
+    row_word_ptr: &[u32],
+    word_indices: &[u32],
+    masks: &[u64],
+    row_ptr: &[u32],
+    col_idx: &[u32],
+    region: &[u64],
+) -> Binding
+    requires { ⌜ IsSide n n (now «row_word_ptr») (now «word_indices») (now masks) × IsMatrix n n (now «row_ptr») (now «col_idx») × IsMask n (now region) ⌝ }
+    ensures { λ b. ⌜ b ≡ after (bindingCheck n (inMask (now (region .entry))) (sideHolds (now («row_word_ptr» .entry)) (now («word_indices» .entry)) (now (masks .entry))) (stored (now («row_ptr» .entry)) (now («col_idx» .entry)))) (Binding.Bound (countsOf n (inMask (now (region .entry))) (sideHolds (now («row_word_ptr» .entry)) (now («word_indices» .entry)) (now (masks .entry))) (now («row_ptr» .entry)) (now («col_idx» .entry)))) Binding.Refused ⌝ }
+{
+    let mut seen: [u64; 16384] = [0; 16384];
+    let need = mask::inner::words_for(n);
+    settle_members(
+        n,
+        row_word_ptr,
+        word_indices,
+        masks,
+        row_ptr,
+        col_idx,
+        region,
+        &mut seen[0..need],
+    )
 }

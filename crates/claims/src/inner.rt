@@ -4,6 +4,7 @@ use crate::Ran;
 use crate::RunAnswer;
 use base::Checked;
 use base::Counted;
+use binding::Binding;
 use field_region::FieldGrown;
 use numeric_plan::PlanPrepared;
 use region::RegionGrown;
@@ -527,7 +528,7 @@ fn check_filled(
     ensures { λ r. ⌜ r ≡ pairsCheck n (sideHolds (now («row_word_ptr» .entry)) (now («row_word_indices» .entry)) (now («row_masks» .entry))) (stored (now («row_ptr» .entry)) (now («col_idx» .entry))) ⌝ }
 {
     mask::inner::add_range(n, all, 0, n);
-    binding::inner::check_rows(
+    match binding::inner::bind(
         n,
         row_word_ptr,
         row_word_indices,
@@ -535,7 +536,10 @@ fn check_filled(
         row_ptr,
         col_idx,
         all,
-    )
+    ) {
+        Binding::Refused(r) => Checked::Refused(r),
+        Binding::Bound(_) => Checked::Accepted,
+    }
 }
 
 // The same with a mask of its own: 16,384 words hold the 1,048,576 nodes that a matrix has at most.

@@ -1,8 +1,8 @@
 -- What an accepted binding gives: inside the region the topology's pairs are the matrix's, and how many entries lie there. Assumes nothing.
-use mathlib.Core.Path.{_≡_, refl, sym, ap, _∙_, subst}
+use mathlib.Core.Path.{_≡_, refl, sym, ap, _∙_}
 use mathlib.Core.Bool.{Bool, true, false, not, cond, _&&_}
 use mathlib.Core.List.{List}
-use Prim.Native.Nat.{ℕ, zero, suc, _+_, _-_, _≤_, _<_}
+use Prim.Native.Nat.{ℕ, _+_, _-_, _≤_, _<_}
 use native.Mathlib.Nat.{le-refl}
 use native.Mathlib.Omega.{arith}
 use borrow.Author.Tests.{eq-eqb, ne-eqb}
@@ -12,13 +12,14 @@ use Rattle.base.specs.Sets.{anyBelow, sumBelow, sumOver, countBelow, one-if}
 use Rattle.base.specs.declared.Checked.{Checked}
 use Rattle.base.proofs.Bools.{bool-ext, T-true, T-of, not-T-of}
 use Rattle.base.proofs.Checks.{passed, both-passed, checks-passed}
-use Rattle.base.proofs.Sets.{any-i, sum-zero, sum-suc, sum-cong, sum-swap, over-le, count-le, count-member, getD-count, members-count, sum-place, sum-if}
+use Rattle.base.proofs.Sets.{any-i, sum-cong, sum-swap, over-le, count-member, getD-count, members-count, sum-place, sum-if}
 use Rattle.csr32.specs.Matrix.{stored, IsMatrix}
 use Rattle.csr32.proofs.Matrix.{ptr-le, stored-by}
 use Rattle.pattern.specs.Pattern.{memberAt, inside}
 use Rattle.sources.specs.Sources.{entriesIn, entriesOf}
 use Rattle.binding.specs.Binding.{rowFaults, bindingCheck}
-use Rattle.binding.specs.Steps.{sourcesInside}
+use Rattle.binding.specs.Steps.{rowSources, sourcesInside}
+use Rattle.binding.proofs.Sources.{rows-within}
 
 -- ---- pairs and entries agree
 
@@ -98,20 +99,4 @@ module _ (n : ℕ) (p : ℕ → Bool) (ptr cols : List ℕ) (m : IsMatrix n n pt
 
   -- no more than there are
   pub sources-few : sourcesInside n p ptr cols ≤ length cols
-  sources-few =
-      omega (
-        arith,
-        over-le n p (λ r. countBelow (getD ptr (r + 1) 0 - getD ptr r 0) (λ j. p (getD cols (getD ptr r 0 + j) 0))),
-        up-to n (le-refl n),
-        m .ends,
-      )
-    where
-      f : ℕ → ℕ
-      f r = countBelow (getD ptr (r + 1) 0 - getD ptr r 0) (λ j. p (getD cols (getD ptr r 0 + j) 0))
-
-      up-to : (k : ℕ) → k ≤ n → sumBelow k (λ r. countBelow (getD ptr (r + 1) 0 - getD ptr r 0) (λ j. p (getD cols (getD ptr r 0 + j) 0))) ≤ getD ptr k 0
-      up-to zero h = omega (arith, sum-zero f)
-      up-to (suc k) h =
-          let e : k + 1 ≡ suc k = omega arith in
-          subst (λ (i : ℕ). sumBelow i f ≤ getD ptr i 0) e
-          (omega (arith, up-to k (omega arith), sum-suc k f, count-le (getD ptr (k + 1) 0 - getD ptr k 0) (λ j. p (getD cols (getD ptr k 0 + j) 0)), m .rises k (omega arith)))
+  sources-few = omega (arith, over-le n p (rowSources p ptr cols), rows-within n p ptr cols m n (le-refl n), m .ends)

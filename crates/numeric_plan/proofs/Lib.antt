@@ -1,7 +1,8 @@
 pub mod Sourcing
 pub mod Binding
 pub mod Pairs
-pub mod Patterns
+pub mod Rows
+pub mod OneRow
 pub mod Plans
 pub mod Accepted
 pub mod Prepared

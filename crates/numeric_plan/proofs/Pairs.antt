@@ -17,13 +17,22 @@ use Rattle.base.proofs.Joins.{join-none, join-next, join-count, join-at, join-s
 use Rattle.base.proofs.Sets.{sum-cong, count-members, members-at, members-find, over-same, members-over, count-over}
 use Rattle.csr32.specs.Matrix.{stored, IsMatrix}
 use Rattle.csr32.proofs.Matrix.{ptr-le, stored-entry}
-use Rattle.pattern.specs.Pattern.{memberAt, inside, columnsOf, pairsInside}
+use Rattle.pattern.specs.Pattern.{memberAt, inside, columnsOf, localRow, patternColumns, pairsInside}
+use Rattle.pattern.proofs.Writing.{row-length}
 use Rattle.sources.specs.Sources.{entriesIn, entriesOf}
 use Rattle.binding.specs.Binding.{bindingCheck}
 use Rattle.binding.specs.Steps.{sourcesInside}
 use Rattle.gather.specs.Plan.{entryList, planSources}
 use Rattle.numeric_plan.specs.Plan.{pairEntries}
 use Rattle.numeric_plan.proofs.Binding.{bound, row-sources, sources-few}
+
+-- as many columns in the pattern as pairs
+pub pattern-pairs : (n : ℕ) (p : ℕ → Bool) (s : ℕ → ℕ → Bool) → length (patternColumns n p s) ≡ pairsInside n p s
+unfolding patternColumns pairsInside
+pattern-pairs n p s =
+    join-count (countBelow n p) (localRow n p s)
+    ∙ sum-cong (countBelow n p) (λ k. length (localRow n p s k)) (λ k. countBelow n (inside p s (memberAt n p k))) (λ k h. row-length n s p k)
+    ∙ count-over n p (λ r. countBelow n (inside p s r))
 
 -- list j is the entries of the pair (row, column), which is inside
 pub record PairOf (n : ℕ) (p : ℕ → Bool) (s : ℕ → ℕ → Bool) (ptr cols : List ℕ) (j : ℕ) : Type 0 where

@@ -1,21 +1,18 @@
--- The sources of a written pattern, row after row. Assumes nothing.
+-- The sources of a pattern's pairs, row after row. Assumes nothing.
 use mathlib.Core.Path.{_≡_, refl, sym, ap, ap₂, _∙_}
 use mathlib.Core.List.{List, [], _∷_, _++_}
+use mathlib.Core.Logic.{_⊎_, inl, inr}
 use Prim.Native.Nat.{ℕ, _+_, _-_, _≤_, _<_}
 use native.Mathlib.Nat.{le-refl}
 use native.Mathlib.Omega.{arith}
-use borrow.Author.Tests.{lt-ltb, ltb-true}
-use lib.Dec.{ltb}
-use lib.ListN.{length, getD, set, length-append}
+use lib.ListN.{length, getD, set, drop, length-append, length-drop, List·getD-append}
+use lib.Seq.{getD-append-add, getD-drop, ext-getD}
 use Rattle.base.specs.Lists.{listFrom, joinBelow, over, placed}
-use Rattle.base.proofs.Bools.{T-of, T-true}
-use Rattle.base.proofs.Joins.{join-none, join-append, join-cong, join-up}
-use Rattle.base.proofs.Lists.{rise-to, length-listFrom, listFrom-append, listFrom-shift, listFrom-cong, placed-over, placed-length}
-use Rattle.base.proofs.Sets.{first-is}
-use Rattle.sources.specs.Sources.{entriesOf}
-use Rattle.sources.specs.Steps.{columnAt, pairAt, endsFrom}
+use Rattle.base.proofs.Bools.{lt-or-le}
+use Rattle.base.proofs.Joins.{join-none, join-append, join-cong, join-part}
+use Rattle.base.proofs.Lists.{length-listFrom, listFrom-append, listFrom-shift, listFrom-cong, placed-over, placed-length}
+use Rattle.sources.specs.Steps.{endsFrom, Put}
 use Rattle.sources.proofs.Rows.{ends-length}
-use Rattle.numeric_plan.specs.Steps.{rowAt, localEntries, Written}
 
 -- where each list starts, and where the last ends
 abbrev pub startsOf : (ℕ → List ℕ) → ℕ → List ℕ
@@ -32,129 +29,109 @@ first-over : (l : List ℕ) → 0 < length l → set l 0 0 ≡ over (0 ∷ []) (
 first-over [] h = absurd (omega arith)
 first-over (x ∷ l) h = refl
 
-module _ (n members : ℕ) (nodes lptr lcols : List ℕ) (w : Written n members nodes lptr lcols) (ptr cols : List ℕ) where
-  abbrev L : ℕ → List ℕ
-  L = localEntries members nodes lptr lcols ptr cols
+-- past an answer the list stays
+over-past : (x l : List ℕ) (j : ℕ) → getD (over x l) (length x + j) 0 ≡ getD l (length x + j) 0
+over-past x l j = getD-append-add x (drop (length x) l) j 0 ∙ getD-drop (length x) l j 0
 
-  -- pointers rise
-  pub lptr-up : (i k : ℕ) → i ≤ k → k ≤ members → getD lptr i 0 ≤ getD lptr k 0
-  lptr-up = rise-to lptr members (λ r h. w .row r h .order)
-
-  row-at : (k : ℕ) → k < members → (q : ℕ) → getD lptr k 0 ≤ q → q < getD lptr (k + 1) 0 → rowAt members lptr q ≡ k
-  row-at k h q a b =
-      first-is members (λ i. ltb q (getD lptr (i + 1) 0)) k h (T-of (ltb q (getD lptr (k + 1) 0)) (lt-ltb q (getD lptr (k + 1) 0) b))
-      (λ i l t. omega (arith, lptr-up (i + 1) k (omega arith) (omega arith), ltb-true q (getD lptr (i + 1) 0) (T-true (ltb q (getD lptr (i + 1) 0)) t)))
-
-  module _ (k : ℕ) (h : k < members) where
-    abbrev first : ℕ
-    first = getD lptr k 0
-
-    abbrev last : ℕ
-    last = getD lptr (k + 1) 0
-
-    -- the entries of its pairs
-    abbrev pub rowPairs : ℕ → List ℕ
-    rowPairs = pairAt cols (getD ptr (getD nodes k 0) 0) (getD ptr (getD nodes k 0 + 1) 0) nodes lcols first
-
-    row-pair : (j : ℕ) → j < last - first → L (first + j) ≡ rowPairs j
-    unfolding localEntries
-    row-pair j l = ap (λ (x : ℕ). entriesOf ptr cols (getD nodes x 0) (columnAt nodes lcols (first + j))) (row-at k h (first + j) (omega arith) (omega arith))
-
-    -- the first of them come behind the rows before
-    row-part : (d : ℕ) → d ≤ last - first → joinBelow (first + d) L ≡ joinBelow first L ++ joinBelow d rowPairs
-    row-part d l = join-append first d L ∙ ap (λ (x : List ℕ). joinBelow first L ++ x) (join-cong d (λ j. L (first + j)) rowPairs (λ j u. row-pair j (omega arith)))
-
-    pub row-join : joinBelow last L ≡ joinBelow first L ++ joinBelow (last - first) rowPairs
-    row-join =
-        let s : first + (last - first) ≡ last = omega (arith, w .row k h .order) in
-        ap (λ (m : ℕ). joinBelow m L) (sym s) ∙ row-part (last - first) (le-refl (last - first))
-
-    pub row-ends : (next : ℕ) → next ≡ length (joinBelow first L) → startsOf L last ≡ startsOf L first ++ endsFrom next (last - first) rowPairs
-    row-ends next e =
-        let s : last + 1 ≡ first + 1 + (last - first) = omega (arith, w .row k h .order) in
-        ap (λ (m : ℕ). listFrom f m 0) s
-        ∙ listFrom-append f (first + 1) (last - first) 0
-        ∙ ap (λ (x : List ℕ). startsOf L first ++ x) (ap (listFrom f (last - first)) t ∙ listFrom-shift f (last - first) (first + 1) 0 ∙ listFrom-cong (λ i. f (first + 1 + i)) (λ j. next + length (joinBelow (j + 1) rowPairs)) (last - first) 0 (λ i a b. each i (omega arith)))
-      where
-        f : ℕ → ℕ
-        f j = length (joinBelow j L)
-
-        t : 0 + (first + 1) ≡ first + 1 + 0
-        t = omega arith
-
-        each : (i : ℕ) → i < last - first → f (first + 1 + i) ≡ next + length (joinBelow (i + 1) rowPairs)
-        each i u =
-            let o : first + 1 + i ≡ first + (i + 1) = omega arith in
-            ap f o ∙ ap length (row-part (i + 1) (omega arith)) ∙ length-append (joinBelow first L) (joinBelow (i + 1) rowPairs)
-            ∙ ap (λ (x : ℕ). x + length (joinBelow (i + 1) rowPairs)) (sym e)
-
-    -- where they end is not past the end of all
-    pub row-within : last ≤ getD lptr members 0
-    row-within = lptr-up (k + 1) members (omega arith) (le-refl members)
-
-    pub row-room : (next : ℕ) → next ≡ length (joinBelow first L) → next + length (joinBelow (last - first) rowPairs) ≤ length (joinBelow (getD lptr members 0) L)
-    row-room next e =
-        omega (arith, ap length row-join, length-append (joinBelow first L) (joinBelow (last - first) rowPairs), join-up (getD lptr members 0) last L row-within)
-
--- the first k rows are written
-pub record Sourced (members : ℕ) (lptr : List ℕ) (f : ℕ → List ℕ) (ptr₀ src₀ ptr src : List ℕ) (next k : ℕ) : Type 0 where
-  pub within : k ≤ members
-  pub here : next ≡ length (joinBelow (getD lptr k 0) f)
-  pub ptr-done : ptr ≡ over (startsOf f (getD lptr k 0)) ptr₀
-  pub src-done : src ≡ over (joinBelow (getD lptr k 0) f) src₀
+-- the sources of the first of `all` pairs are written; between them and where the last will end anything may stand
+pub record Sourced (f : ℕ → List ℕ) (all : ℕ) (ptr₀ src₀ ptr src : List ℕ) (pairs next : ℕ) : Type 0 where
+  pub here : next ≡ length (joinBelow pairs f)
+  pub ptr-done : ptr ≡ over (startsOf f pairs) ptr₀
   pub ptr-long : length ptr ≡ length ptr₀
+  pub src-done : (i : ℕ) → i < next → getD src i 0 ≡ getD (joinBelow all f) i 0
+  pub src-past : (i : ℕ) → length (joinBelow all f) ≤ i → getD src i 0 ≡ getD src₀ i 0
   pub src-long : length src ≡ length src₀
 
-pub sourced-none : (members : ℕ) (lptr : List ℕ) (f : ℕ → List ℕ) (ptr₀ src₀ : List ℕ) → getD lptr 0 0 ≡ 0 → 0 < length ptr₀ → Sourced members lptr f (set ptr₀ 0 0) src₀ (set ptr₀ 0 0) src₀ 0 0
-sourced-none members lptr f ptr₀ src₀ z h =
-    let none : joinBelow (getD lptr 0 0) f ≡ [] = ap (λ (k : ℕ). joinBelow k f) z ∙ join-none f in
-    let one : startsOf f (getD lptr 0 0) ≡ 0 ∷ [] = ap (startsOf f) z ∙ starts-none f in
+pub sourced-none : (f : ℕ → List ℕ) (all : ℕ) (ptr₀ src₀ : List ℕ) → 0 < length ptr₀ → Sourced f all (set ptr₀ 0 0) src₀ (set ptr₀ 0 0) src₀ 0 0
+sourced-none f all ptr₀ src₀ h =
     record {
-      within = omega arith;
-      here = sym (ap length none);
-      ptr-done = first-over ptr₀ h ∙ ap (λ (x : List ℕ). over x (set ptr₀ 0 0)) (sym one);
-      src-done = sym (ap (λ (x : List ℕ). over x src₀) none);
+      here = sym (ap length (join-none f));
+      ptr-done = first-over ptr₀ h ∙ ap (λ (x : List ℕ). over x (set ptr₀ 0 0)) (sym (starts-none f));
       ptr-long = refl;
+      src-done = λ i l. absurd (omega arith);
+      src-past = λ i l. refl;
       src-long = refl;
     }
 
-module _ (n members : ℕ) (nodes lptr lcols : List ℕ) (w : Written n members nodes lptr lcols) (ptr cols ptr₀ src₀ sptr src : List ℕ) (next k : ℕ) (s : Sourced members lptr (localEntries members nodes lptr lcols ptr cols) ptr₀ src₀ sptr src next k) where
-  abbrev F : ℕ → List ℕ
-  F = localEntries members nodes lptr lcols ptr cols
+-- a row: m pairs more, whose lists are those of e
+module _ (f e : ℕ → List ℕ) (pairs m : ℕ) (same : (j : ℕ) → j < m → f (pairs + j) ≡ e j) where
+  part : (d : ℕ) → d ≤ m → joinBelow (pairs + d) f ≡ joinBelow pairs f ++ joinBelow d e
+  part d l = join-append pairs d f ∙ ap (λ (x : List ℕ). joinBelow pairs f ++ x) (join-cong d (λ j. f (pairs + j)) e (λ j u. same j (omega arith)))
 
-  module _ (h : k < members) (pointers : getD lptr members 0 < length ptr₀) (room : length (joinBelow (getD lptr members 0) F) ≤ length src₀) where
-    abbrev a : ℕ
-    a = getD lptr k 0
+  row-join : joinBelow (pairs + m) f ≡ joinBelow pairs f ++ joinBelow m e
+  row-join = part m (le-refl m)
 
-    abbrev m : ℕ
-    m = getD lptr (k + 1) 0 - getD lptr k 0
+  row-ends : (next : ℕ) → next ≡ length (joinBelow pairs f) → startsOf f (pairs + m) ≡ startsOf f pairs ++ endsFrom next m e
+  row-ends next h =
+      let s : pairs + m + 1 ≡ pairs + 1 + m = omega arith in
+      let t : 0 + (pairs + 1) ≡ pairs + 1 + 0 = omega arith in
+      ap (λ (k : ℕ). listFrom g k 0) s
+      ∙ listFrom-append g (pairs + 1) m 0
+      ∙ ap (λ (x : List ℕ). startsOf f pairs ++ x) (ap (listFrom g m) t ∙ listFrom-shift g m (pairs + 1) 0 ∙ listFrom-cong (λ i. g (pairs + 1 + i)) (λ j. next + length (joinBelow (j + 1) e)) m 0 (λ i a b. each i (omega arith)))
+    where
+      g : ℕ → ℕ
+      g j = length (joinBelow j f)
 
-    abbrev E : ℕ → List ℕ
-    E = rowPairs n members nodes lptr lcols w ptr cols k h
+      each : (i : ℕ) → i < m → g (pairs + 1 + i) ≡ next + length (joinBelow (i + 1) e)
+      each i u =
+          let o : pairs + 1 + i ≡ pairs + (i + 1) = omega arith in
+          ap g o ∙ ap length (part (i + 1) (omega arith)) ∙ length-append (joinBelow pairs f) (joinBelow (i + 1) e)
+          ∙ ap (λ (x : ℕ). x + length (joinBelow (i + 1) e)) (sym h)
 
-    pub sourced-next : (sptr′ src′ : List ℕ) (next′ : ℕ) → next′ ≡ next + length (joinBelow m E) → sptr′ ≡ placed (a + 1) (endsFrom next m E) sptr → src′ ≡ placed next (joinBelow m E) src
-        → Sourced members lptr F ptr₀ src₀ sptr′ src′ next′ (k + 1)
-    sourced-next sptr′ src′ next′ e p g =
-        let join = row-join n members nodes lptr lcols w ptr cols k h in
-        let fits = row-within n members nodes lptr lcols w ptr cols k h in
-        let up : getD lptr k 0 ≤ getD lptr (k + 1) 0 = w .row k h .order in
+  -- the row's own in all
+  row-at : (all : ℕ) → pairs + m ≤ all → (i : ℕ) → i < length (joinBelow m e) → getD (joinBelow all f) (length (joinBelow pairs f) + i) 0 ≡ getD (joinBelow m e) i 0
+  row-at all h i l =
+      let s : pairs + m + (all - (pairs + m)) ≡ all = omega arith in
+      let rest = join-part (pairs + m) (all - (pairs + m)) f in
+      ap (λ (x : ℕ). getD (joinBelow x f) (length (joinBelow pairs f) + i) 0) (sym s)
+      ∙ ap (λ (x : List ℕ). getD x (length (joinBelow pairs f) + i) 0) (rest .1)
+      ∙ List·getD-append (joinBelow (pairs + m) f) (rest .0) 0 (length (joinBelow pairs f) + i) (omega (arith, ap length row-join, length-append (joinBelow pairs f) (joinBelow m e)))
+      ∙ ap (λ (x : List ℕ). getD x (length (joinBelow pairs f) + i) 0) row-join
+      ∙ getD-append-add (joinBelow pairs f) (joinBelow m e) i 0
+
+  module _ (all : ℕ) (ptr₀ src₀ ptr src : List ℕ) (next : ℕ) (w : Sourced f all ptr₀ src₀ ptr src pairs next) where
+    -- where the row's sources end
+    pub sourced-end : next + length (joinBelow m e) ≡ length (joinBelow (pairs + m) f)
+    sourced-end = ap (λ (x : ℕ). x + length (joinBelow m e)) (w .here) ∙ sym (ap length row-join ∙ length-append (joinBelow pairs f) (joinBelow m e))
+
+    pub sourced-next : pairs + m ≤ all → pairs + m < length ptr₀
+        → (ptr′ src′ : List ℕ) (next′ : ℕ) → next′ ≡ next + length (joinBelow m e) → ptr′ ≡ placed (pairs + 1) (endsFrom next m e) ptr → Put next (length (joinBelow all f)) (joinBelow m e) src src′
+        → Sourced f all ptr₀ src₀ ptr′ src′ (pairs + m) next′
+    sourced-next few pointers ptr′ src′ next′ h p g =
         record {
-          within = omega arith;
-          here = e ∙ ap (λ (x : ℕ). x + length (joinBelow m E)) (s .here) ∙ sym (ap length join ∙ length-append (joinBelow a F) (joinBelow m E));
+          here = h ∙ sourced-end;
           ptr-done =
-              p ∙ ap₂ (λ (i : ℕ) (x : List ℕ). placed i (endsFrom next m E) x) (sym (starts-length F a)) (s .ptr-done)
-              ∙ placed-over (startsOf F a) (endsFrom next m E) ptr₀
-              ∙ ap (λ (x : List ℕ). over x ptr₀) (sym (row-ends n members nodes lptr lcols w ptr cols k h next (s .here)));
-          src-done =
-              g ∙ ap₂ (λ (i : ℕ) (x : List ℕ). placed i (joinBelow m E) x) (s .here) (s .src-done)
-              ∙ placed-over (joinBelow a F) (joinBelow m E) src₀
-              ∙ ap (λ (x : List ℕ). over x src₀) (sym join);
-          ptr-long = ap length p ∙ placed-length (a + 1) (endsFrom next m E) sptr (omega (arith, ends-length E next m, s .ptr-long)) ∙ s .ptr-long;
-          src-long =
-              ap length g ∙ placed-length next (joinBelow m E) src (omega (arith, row-room n members nodes lptr lcols w ptr cols k h next (s .here), s .src-long)) ∙ s .src-long;
+              p ∙ ap₂ (λ (i : ℕ) (x : List ℕ). placed i (endsFrom next m e) x) (sym (starts-length f pairs)) (w .ptr-done)
+              ∙ placed-over (startsOf f pairs) (endsFrom next m e) ptr₀
+              ∙ ap (λ (x : List ℕ). over x ptr₀) (sym (row-ends next (w .here)));
+          ptr-long = ap length p ∙ placed-length (pairs + 1) (endsFrom next m e) ptr (omega (arith, ends-length e next m, w .ptr-long)) ∙ w .ptr-long;
+          src-done = λ i l. done i l (lt-or-le i next);
+          src-past = λ i l. g .past i l ∙ w .src-past i l;
+          src-long = g .long ∙ w .src-long;
         }
+      where
+        done : (i : ℕ) → i < next′ → (i < next) ⊎ (next ≤ i) → getD src′ i 0 ≡ getD (joinBelow all f) i 0
+        done i l (inl a) = g .kept i a ∙ w .src-done i a
+        done i l (inr a) =
+            let k : ℕ = i - next in
+            let s : next + (i - next) ≡ i = omega arith in
+            let few-left : i - next < length (joinBelow m e) = omega (arith, h) in
+            ap (λ (x : ℕ). getD src′ x 0) (sym s) ∙ g .here (i - next) few-left ∙ sym (row-at all few (i - next) few-left)
+            ∙ ap (λ (x : ℕ). getD (joinBelow all f) (x + (i - next)) 0) (sym (w .here)) ∙ ap (λ (x : ℕ). getD (joinBelow all f) x 0) s
 
-  pub sourced-all : members ≤ k → (sptr ≡ over (startsOf F (getD lptr members 0)) ptr₀) × (src ≡ over (joinBelow (getD lptr members 0) F) src₀)
-  sourced-all h =
-      let e : k ≡ members = omega (arith, s .within) in
-      (s .ptr-done ∙ ap (λ (x : ℕ). over (startsOf F (getD lptr x 0)) ptr₀) e, s .src-done ∙ ap (λ (x : ℕ). over (joinBelow (getD lptr x 0) F) src₀) e)
+pub sourced-all : (f : ℕ → List ℕ) (all : ℕ) (ptr₀ src₀ ptr src : List ℕ) (pairs next : ℕ) → Sourced f all ptr₀ src₀ ptr src pairs next → pairs ≡ all → length (joinBelow all f) ≤ length src₀
+    → (ptr ≡ over (startsOf f all) ptr₀) × (src ≡ over (joinBelow all f) src₀)
+sourced-all f all ptr₀ src₀ ptr src pairs next w e room =
+    (w .ptr-done ∙ ap (λ (x : ℕ). over (startsOf f x) ptr₀) e, ext-getD 0 src (over x src₀) (w .src-long ∙ sym long) (λ i l. each i (lt-or-le i (length x))))
+  where
+    x : List ℕ
+    x = joinBelow all f
+
+    long : length (over x src₀) ≡ length src₀
+    long = length-append x (drop (length x) src₀) ∙ omega (arith, length-drop (length x) src₀)
+
+    each : (i : ℕ) → (i < length x) ⊎ (length x ≤ i) → getD src i 0 ≡ getD (over x src₀) i 0
+    each i (inl a) = w .src-done i (omega (arith, w .here, ap (λ (k : ℕ). length (joinBelow k f)) e)) ∙ sym (List·getD-append x (drop (length x) src₀) 0 i a)
+    each i (inr a) =
+        let s : length x + (i - length x) ≡ i = omega arith in
+        w .src-past i a ∙ ap (λ (k : ℕ). getD src₀ k 0) (sym s) ∙ sym (over-past x src₀ (i - length x)) ∙ ap (λ (k : ℕ). getD (over x src₀) k 0) s

@@ -1,45 +1,196 @@
-// The sources of a written pattern's pairs, for callers that have checked: no part of the API.
+// A plan's lists, written for callers that have checked: no part of the API.
+use sources::RowEnd;
 ghost use mathlib.Core.Path.{_≡_};
-ghost use Prim.Native.Nat.{_+_, _<_, _≤_};
-ghost use lib.ListN.{length, getD};
-ghost use Rattle.base.specs.Checks.{entryLimit};
-ghost use Rattle.base.specs.Lists.{listFrom, joinBelow, over};
-ghost use Rattle.csr32.specs.Matrix.{IsMatrix};
-ghost use Rattle.numeric_plan.specs.Steps.{localEntries, Written};
+ghost use mathlib.Core.List.{map};
+ghost use Prim.Native.Nat.{ℕ, _+_, _<_, _≤_};
+ghost use lib.Dec.{T};
+ghost use lib.ListN.{length};
+ghost use Rattle.base.specs.Lists.{joinBelow, over, placed};
+ghost use Rattle.base.specs.Sets.{countBelow, membersBelow};
+ghost use Rattle.base.specs.declared.Checked.{Checked};
+ghost use Rattle.mask.specs.Mask.{inMask, IsMask};
+ghost use Rattle.csr32.specs.Matrix.{stored, IsMatrix};
+ghost use Rattle.side.specs.Side.{sideHolds};
+ghost use Rattle.side.specs.Check.{IsSide};
+ghost use Rattle.pattern.specs.Pattern.{numberOf, columnsOf, patternPtr, patternColumns, pairsInside};
+ghost use Rattle.sources.specs.Steps.{endsFrom, Put};
+ghost use Rattle.binding.specs.Binding.{bindingCheck};
+ghost use Rattle.gather.specs.Plan.{planSources, planPtr};
+ghost use Rattle.numeric_plan.specs.Plan.{pairEntries};
+ghost use Rattle.numeric_plan.specs.Steps.{rowEntries, Numbered, RowRoom};
 
-// The entries of each pair, row after row, and where each pair's start and the last's end.
-pub fn write_sources(
+// Row r, whose pairs inside are its entries: its columns by number from `first` on, their sources from `at` on, of `most` in all, and where each
+// one's end. The entries inside are chosen first; where their columns rise the pairs follow from them, any other row is written from its words and
+// then in n log n. Where the row's end.
+fn write_row(
     n: usize,
+    row_word_ptr: &[u32],
+    word_indices: &[u32],
+    masks: &[u64],
+    region: &[u64],
+    ranks: &[u32],
+    row_ptr: &[u32],
+    col_idx: &[u32],
+    nodes: &[u32],
+    r: usize,
+    local_cols: &mut [u32],
+    first: usize,
+    source_ptr: &mut [u32],
+    sources: &mut [u32],
+    at: usize,
+    most: usize,
+) -> RowEnd
+    requires { ⌜ IsSide n n (now «row_word_ptr») (now «word_indices») (now masks) × IsMatrix n n (now «row_ptr») (now «col_idx») × Numbered n (now region) (now ranks) (now nodes) × (r < n) × ((c : ℕ) → c < n → T (inMask (now region) c) → sideHolds (now «row_word_ptr») (now «word_indices») (now masks) r c ≡ stored (now «row_ptr») (now «col_idx») r c) × RowRoom (columnsOf n (inMask (now region)) (sideHolds (now «row_word_ptr») (now «word_indices») (now masks)) r) (rowEntries n (inMask (now region)) (sideHolds (now «row_word_ptr») (now «word_indices») (now masks)) (now «row_ptr») (now «col_idx») r) first at most (now «local_cols») (now «source_ptr») (now sources) ⌝ }
+    ensures { λ e. ⌜ (e .pair ≡ first + length (columnsOf n (inMask (now (region .entry))) (sideHolds (now («row_word_ptr» .entry)) (now («word_indices» .entry)) (now (masks .entry))) r)) × (e .source ≡ at + length (joinBelow (length (columnsOf n (inMask (now (region .entry))) (sideHolds (now («row_word_ptr» .entry)) (now («word_indices» .entry)) (now (masks .entry))) r)) (rowEntries n (inMask (now (region .entry))) (sideHolds (now («row_word_ptr» .entry)) (now («word_indices» .entry)) (now (masks .entry))) (now («row_ptr» .entry)) (now («col_idx» .entry)) r))) ⌝ }
+    ensures columns { λ _. ⌜ now («local_cols» .exit) ≡ placed first (map (numberOf (inMask (now (region .entry)))) (columnsOf n (inMask (now (region .entry))) (sideHolds (now («row_word_ptr» .entry)) (now («word_indices» .entry)) (now (masks .entry))) r)) (now («local_cols» .entry)) ⌝ }
+    ensures starts { λ _. ⌜ now («source_ptr» .exit) ≡ placed (first + 1) (endsFrom at (length (columnsOf n (inMask (now (region .entry))) (sideHolds (now («row_word_ptr» .entry)) (now («word_indices» .entry)) (now (masks .entry))) r)) (rowEntries n (inMask (now (region .entry))) (sideHolds (now («row_word_ptr» .entry)) (now («word_indices» .entry)) (now (masks .entry))) (now («row_ptr» .entry)) (now («col_idx» .entry)) r)) (now («source_ptr» .entry)) ⌝ }
+    ensures entries { λ _. ⌜ Put at most (joinBelow (length (columnsOf n (inMask (now (region .entry))) (sideHolds (now («row_word_ptr» .entry)) (now («word_indices» .entry)) (now (masks .entry))) r)) (rowEntries n (inMask (now (region .entry))) (sideHolds (now («row_word_ptr» .entry)) (now («word_indices» .entry)) (now (masks .entry))) (now («row_ptr» .entry)) (now («col_idx» .entry)) r)) (now (sources .entry)) (now (sources .exit)) ⌝ }
+{
+    let start = row_ptr[r] as usize;
+    let end = row_ptr[r + 1] as usize;
+    let next = sources::inner::take_inside(n, region, col_idx, start, end, sources, at, most);
+    if sources::inner::rises(col_idx, sources, at, next) {
+        let pair = sources::inner::write_pairs(
+            n,
+            region,
+            ranks,
+            col_idx,
+            start,
+            end,
+            sources,
+            at,
+            next,
+            local_cols,
+            first,
+            source_ptr,
+        );
+        return RowEnd { pair, source: next };
+    }
+    let last = pattern::inner::write_row(
+        n,
+        row_word_ptr,
+        word_indices,
+        masks,
+        region,
+        ranks,
+        r,
+        local_cols,
+        first,
+    );
+    let all = sources::inner::write_counted(
+        col_idx,
+        start,
+        end,
+        nodes,
+        local_cols,
+        first,
+        last,
+        source_ptr,
+        sources,
+        at,
+    );
+    RowEnd {
+        pair: last,
+        source: all,
+    }
+}
+
+// All rows, on the region's tables; `terms` sources in all.
+fn write_rows(
+    n: usize,
+    row_word_ptr: &[u32],
+    word_indices: &[u32],
+    masks: &[u64],
+    region: &[u64],
+    ranks: &[u32],
     row_ptr: &[u32],
     col_idx: &[u32],
     members: usize,
     nodes: &[u32],
-    local_ptr: &[u32],
-    local_cols: &[u32],
+    terms: usize,
+    local_ptr: &mut [u32],
+    local_cols: &mut [u32],
     source_ptr: &mut [u32],
     sources: &mut [u32],
 )
-    requires { ⌜ IsMatrix n n (now «row_ptr») (now «col_idx») × Written n members (now nodes) (now «local_ptr») (now «local_cols») × (getD (now «local_ptr») members 0 < length (now «source_ptr»)) × (length (joinBelow (getD (now «local_ptr») members 0) (localEntries members (now nodes) (now «local_ptr») (now «local_cols») (now «row_ptr») (now «col_idx»))) ≤ length (now sources)) × (length (joinBelow (getD (now «local_ptr») members 0) (localEntries members (now nodes) (now «local_ptr») (now «local_cols») (now «row_ptr») (now «col_idx»))) ≤ entryLimit) ⌝ }
-    ensures pointers { λ _. ⌜ now («source_ptr» .exit) ≡ over (listFrom (λ j. length (joinBelow j (localEntries members (now (nodes .entry)) (now («local_ptr» .entry)) (now («local_cols» .entry)) (now («row_ptr» .entry)) (now («col_idx» .entry))))) (getD (now («local_ptr» .entry)) members 0 + 1) 0) (now («source_ptr» .entry)) ⌝ }
-    ensures entries { λ _. ⌜ now (sources .exit) ≡ over (joinBelow (getD (now («local_ptr» .entry)) members 0) (localEntries members (now (nodes .entry)) (now («local_ptr» .entry)) (now («local_cols» .entry)) (now («row_ptr» .entry)) (now («col_idx» .entry)))) (now (sources .entry)) ⌝ }
+    requires { ⌜ IsSide n n (now «row_word_ptr») (now «word_indices») (now masks) × IsMatrix n n (now «row_ptr») (now «col_idx») × Numbered n (now region) (now ranks) (now nodes) × (bindingCheck n (inMask (now region)) (sideHolds (now «row_word_ptr») (now «word_indices») (now masks)) (stored (now «row_ptr») (now «col_idx»)) ≡ Checked.Accepted) × (members ≡ countBelow n (inMask (now region))) × (members < length (now «local_ptr»)) × (pairsInside n (inMask (now region)) (sideHolds (now «row_word_ptr») (now «word_indices») (now masks)) ≤ length (now «local_cols»)) × (pairsInside n (inMask (now region)) (sideHolds (now «row_word_ptr») (now «word_indices») (now masks)) < length (now «source_ptr»)) × (terms ≡ length (planSources (pairEntries n (inMask (now region)) (sideHolds (now «row_word_ptr») (now «word_indices») (now masks)) (now «row_ptr») (now «col_idx»)))) × (terms ≤ length (now sources)) ⌝ }
+    ensures pointers { λ _. ⌜ now («local_ptr» .exit) ≡ over (patternPtr n (inMask (now (region .entry))) (sideHolds (now («row_word_ptr» .entry)) (now («word_indices» .entry)) (now (masks .entry)))) (now («local_ptr» .entry)) ⌝ }
+    ensures columns { λ _. ⌜ now («local_cols» .exit) ≡ over (patternColumns n (inMask (now (region .entry))) (sideHolds (now («row_word_ptr» .entry)) (now («word_indices» .entry)) (now (masks .entry)))) (now («local_cols» .entry)) ⌝ }
+    ensures starts { λ _. ⌜ now («source_ptr» .exit) ≡ over (planPtr (pairEntries n (inMask (now (region .entry))) (sideHolds (now («row_word_ptr» .entry)) (now («word_indices» .entry)) (now (masks .entry))) (now («row_ptr» .entry)) (now («col_idx» .entry)))) (now («source_ptr» .entry)) ⌝ }
+    ensures entries { λ _. ⌜ now (sources .exit) ≡ over (planSources (pairEntries n (inMask (now (region .entry))) (sideHolds (now («row_word_ptr» .entry)) (now («word_indices» .entry)) (now (masks .entry))) (now («row_ptr» .entry)) (now («col_idx» .entry)))) (now (sources .entry)) ⌝ }
 {
+    local_ptr[0] = 0;
     source_ptr[0] = 0;
-    let mut next: usize = 0;
+    let mut pair: usize = 0;
+    let mut source: usize = 0;
     let mut k: usize = 0;
     while k < members {
-        let r = nodes[k] as usize;
-        next = sources::inner::write_row(
+        let end = write_row(
+            n,
+            row_word_ptr,
+            word_indices,
+            masks,
+            region,
+            ranks,
+            row_ptr,
             col_idx,
-            row_ptr[r] as usize,
-            row_ptr[r + 1] as usize,
             nodes,
+            nodes[k] as usize,
             local_cols,
-            local_ptr[k] as usize,
-            local_ptr[k + 1] as usize,
+            pair,
             source_ptr,
             sources,
-            next,
+            source,
+            terms,
         );
+        pair = end.pair;
+        source = end.source;
         k += 1;
+        local_ptr[k] = pair as u32;
     }
+}
+
+// The plan on lists that reach their needed lengths; `terms` is how many sources it has.
+pub fn write(
+    n: usize,
+    row_word_ptr: &[u32],
+    word_indices: &[u32],
+    masks: &[u64],
+    region: &[u64],
+    row_ptr: &[u32],
+    col_idx: &[u32],
+    terms: usize,
+    nodes: &mut [u32],
+    local_ptr: &mut [u32],
+    local_cols: &mut [u32],
+    source_ptr: &mut [u32],
+    sources: &mut [u32],
+)
+    requires { ⌜ IsSide n n (now «row_word_ptr») (now «word_indices») (now masks) × IsMatrix n n (now «row_ptr») (now «col_idx») × IsMask n (now region) × (bindingCheck n (inMask (now region)) (sideHolds (now «row_word_ptr») (now «word_indices») (now masks)) (stored (now «row_ptr») (now «col_idx»)) ≡ Checked.Accepted) × (countBelow n (inMask (now region)) ≤ length (now nodes)) × (countBelow n (inMask (now region)) < length (now «local_ptr»)) × (pairsInside n (inMask (now region)) (sideHolds (now «row_word_ptr») (now «word_indices») (now masks)) ≤ length (now «local_cols»)) × (pairsInside n (inMask (now region)) (sideHolds (now «row_word_ptr») (now «word_indices») (now masks)) < length (now «source_ptr»)) × (terms ≡ length (planSources (pairEntries n (inMask (now region)) (sideHolds (now «row_word_ptr») (now «word_indices») (now masks)) (now «row_ptr») (now «col_idx»)))) × (terms ≤ length (now sources)) ⌝ }
+    ensures members { λ _. ⌜ now (nodes .exit) ≡ over (membersBelow n (inMask (now (region .entry)))) (now (nodes .entry)) ⌝ }
+    ensures pointers { λ _. ⌜ now («local_ptr» .exit) ≡ over (patternPtr n (inMask (now (region .entry))) (sideHolds (now («row_word_ptr» .entry)) (now («word_indices» .entry)) (now (masks .entry)))) (now («local_ptr» .entry)) ⌝ }
+    ensures columns { λ _. ⌜ now («local_cols» .exit) ≡ over (patternColumns n (inMask (now (region .entry))) (sideHolds (now («row_word_ptr» .entry)) (now («word_indices» .entry)) (now (masks .entry)))) (now («local_cols» .entry)) ⌝ }
+    ensures starts { λ _. ⌜ now («source_ptr» .exit) ≡ over (planPtr (pairEntries n (inMask (now (region .entry))) (sideHolds (now («row_word_ptr» .entry)) (now («word_indices» .entry)) (now (masks .entry))) (now («row_ptr» .entry)) (now («col_idx» .entry)))) (now («source_ptr» .entry)) ⌝ }
+    ensures entries { λ _. ⌜ now (sources .exit) ≡ over (planSources (pairEntries n (inMask (now (region .entry))) (sideHolds (now («row_word_ptr» .entry)) (now («word_indices» .entry)) (now (masks .entry))) (now («row_ptr» .entry)) (now («col_idx» .entry)))) (now (sources .entry)) ⌝ }
+{
+    let mut ranks: [u32; 16384] = [0; 16384];
+    pattern::inner::fill_ranks(n, region, &mut ranks);
+    let members = pattern::inner::write_nodes(n, region, nodes);
+    write_rows(
+        n,
+        row_word_ptr,
+        word_indices,
+        masks,
+        region,
+        &ranks,
+        row_ptr,
+        col_idx,
+        members,
+        nodes,
+        terms,
+        local_ptr,
+        local_cols,
+        source_ptr,
+        sources,
+    );
 }

@@ -1,18 +1,18 @@
 // The numeric plan of a region, region.rs of the Rust: for each pair of the local pattern its entries in stored order, as they stand in the matrix.
 use base::Checked;
 use base::Refusal;
-use pattern::RegionKept;
+use binding::Binding;
+use binding::Counts;
 ghost use mathlib.Core.Path.{_≡_};
-ghost use Prim.Native.Nat.{_≤_};
-ghost use Rattle.base.specs.Checks.{_then_, entryLimit};
+ghost use Rattle.base.specs.Checks.{_then_, after};
 ghost use Rattle.mask.specs.Mask.{inMask};
 ghost use Rattle.csr32.specs.Matrix.{matrixCheck, stored};
 ghost use Rattle.side.specs.Side.{sideHolds};
 ghost use Rattle.dual_topology.specs.Check.{topologyCheck};
 ghost use Rattle.pattern.specs.Pattern.{regionCheck, nodesLeft, ptrLeft, columnsLeft};
-ghost use Rattle.pattern.specs.Steps.{Small};
+ghost use Rattle.binding.specs.Steps.{countsOf};
 ghost use Rattle.numeric_plan.specs.Plan.{pairEntries, sidesCheck, planInputs, planCheck, planAnswer, sourcePtrLeft, sourcesLeft};
-ghost use Rattle.numeric_plan.specs.Steps.{planRoomFor, statsOf};
+ghost use Rattle.numeric_plan.specs.Steps.{planRoomFor, Small, statsOf};
 
 pub mod inner;
 
@@ -81,7 +81,7 @@ fn check_region(
     }
 }
 
-// The matrix, the region, and by local row 23 and 24.
+// The matrix, the region, and by local row 23 and 24. What the rows hold inside the region.
 fn check_inputs(
     nrows: usize,
     ncols: usize,
@@ -102,11 +102,11 @@ fn check_inputs(
     values: &[f64],
     len: usize,
     words: &[u64],
-) -> Checked
-    ensures { λ r. ⌜ r ≡ planInputs (matrixCheck «matrix_nrows» «matrix_ncols» (now («row_ptr» .entry)) (now («col_idx» .entry)) (now (values .entry))) (topologyCheck nrows ncols (now («row_word_ptr» .entry)) (now («row_word_indices» .entry)) (now («row_masks» .entry)) «structural_nnz» «column_nrows» «column_ncols» (now («column_word_ptr» .entry)) (now («column_word_indices» .entry)) (now («column_masks» .entry)) «column_structural_nnz») «matrix_nrows» «matrix_ncols» nrows ncols len (now (words .entry)) (sideHolds (now («row_word_ptr» .entry)) (now («row_word_indices» .entry)) (now («row_masks» .entry))) (stored (now («row_ptr» .entry)) (now («col_idx» .entry))) ⌝ }
+) -> Binding
+    ensures { λ r. ⌜ r ≡ after (planInputs (matrixCheck «matrix_nrows» «matrix_ncols» (now («row_ptr» .entry)) (now («col_idx» .entry)) (now (values .entry))) (topologyCheck nrows ncols (now («row_word_ptr» .entry)) (now («row_word_indices» .entry)) (now («row_masks» .entry)) «structural_nnz» «column_nrows» «column_ncols» (now («column_word_ptr» .entry)) (now («column_word_indices» .entry)) (now («column_masks» .entry)) «column_structural_nnz») «matrix_nrows» «matrix_ncols» nrows ncols len (now (words .entry)) (sideHolds (now («row_word_ptr» .entry)) (now («row_word_indices» .entry)) (now («row_masks» .entry))) (stored (now («row_ptr» .entry)) (now («col_idx» .entry)))) (Binding.Bound (countsOf nrows (inMask (now (words .entry))) (sideHolds (now («row_word_ptr» .entry)) (now («row_word_indices» .entry)) (now («row_masks» .entry))) (now («row_ptr» .entry)) (now («col_idx» .entry)))) Binding.Refused ⌝ }
 {
     match csr32::validate(matrix_nrows, matrix_ncols, row_ptr, col_idx, values) {
-        Checked::Refused(r) => Checked::Refused(r),
+        Checked::Refused(r) => Binding::Refused(r),
         Checked::Accepted => match check_region(
             nrows,
             ncols,
@@ -125,8 +125,8 @@ fn check_inputs(
             len,
             words,
         ) {
-            Checked::Refused(r) => Checked::Refused(r),
-            Checked::Accepted => binding::inner::check_rows(
+            Checked::Refused(r) => Binding::Refused(r),
+            Checked::Accepted => binding::inner::bind(
                 nrows,
                 row_word_ptr,
                 row_word_indices,
@@ -141,23 +141,22 @@ fn check_inputs(
 
 // The lengths of the lists.
 fn check_room(
-    counts: RegionKept,
-    terms: usize,
+    counts: Counts,
     nodes: usize,
     pointers: usize,
     columns: usize,
     source_pointers: usize,
     sources: usize,
 ) -> Checked
-    ensures { λ r. ⌜ r ≡ planRoomFor counts terms nodes pointers columns «source_pointers» sources ⌝ }
+    ensures { λ r. ⌜ r ≡ planRoomFor counts nodes pointers columns «source_pointers» sources ⌝ }
 {
-    match pattern::inner::check_room(counts, nodes, pointers, columns) {
+    match pattern::inner::check_room(counts.members, counts.pairs, nodes, pointers, columns) {
         Checked::Refused(r) => Checked::Refused(r),
         Checked::Accepted => {
-            if counts.kept >= source_pointers {
+            if counts.pairs >= source_pointers {
                 return base::refused(25);
             }
-            if terms > sources {
+            if counts.sources > sources {
                 return base::refused(25);
             }
             Checked::Accepted
@@ -166,21 +165,21 @@ fn check_room(
 }
 
 // With no pair without a source, as many sources as pairs are one each.
-fn stats(counts: RegionKept, terms: usize) -> AbtmLocalNumericPlanStats
-    requires { ⌜ Small counts × (terms ≤ entryLimit) × (counts .kept ≤ terms) ⌝ }
-    ensures { λ r. ⌜ r ≡ statsOf counts terms ⌝ }
+fn stats(counts: Counts) -> AbtmLocalNumericPlanStats
+    requires { ⌜ Small counts ⌝ }
+    ensures { λ r. ⌜ r ≡ statsOf counts ⌝ }
 {
     AbtmLocalNumericPlanStats {
         local_nodes: counts.members as u32,
-        local_nnz: counts.kept as u32,
-        source_terms: terms as u32,
-        duplicate_source_terms: (terms - counts.kept) as u32,
-        direct_source_map: terms == counts.kept,
+        local_nnz: counts.pairs as u32,
+        source_terms: counts.sources as u32,
+        duplicate_source_terms: (counts.sources - counts.pairs) as u32,
+        direct_source_map: counts.sources == counts.pairs,
         plan_bytes: (4 * counts.members
             + 4 * (counts.members + 1)
-            + 4 * counts.kept
-            + 4 * (counts.kept + 1)
-            + 4 * terms) as u32,
+            + 4 * counts.pairs
+            + 4 * (counts.pairs + 1)
+            + 4 * counts.sources) as u32,
     }
 }
 
@@ -239,51 +238,34 @@ pub fn prepare_local_numeric_plan(
         len,
         words,
     ) {
-        Checked::Refused(r) => PlanPrepared::Refused(r),
-        Checked::Accepted => {
-            let kept = pattern::inner::count(
-                nrows,
-                row_word_ptr,
-                row_word_indices,
-                row_masks,
-                words,
-            );
-            let terms = binding::inner::count_sources(nrows, words, row_ptr, col_idx);
-            match check_room(
-                kept,
-                terms,
-                global_nodes.len(),
-                local_row_ptr.len(),
-                local_col_idx.len(),
-                source_ptr.len(),
-                source_indices.len(),
-            ) {
-                Checked::Refused(r) => PlanPrepared::Refused(r),
-                Checked::Accepted => {
-                    pattern::inner::write(
-                        nrows,
-                        row_word_ptr,
-                        row_word_indices,
-                        row_masks,
-                        words,
-                        global_nodes,
-                        local_row_ptr,
-                        local_col_idx,
-                    );
-                    inner::write_sources(
-                        nrows,
-                        row_ptr,
-                        col_idx,
-                        kept.members,
-                        global_nodes,
-                        local_row_ptr,
-                        local_col_idx,
-                        source_ptr,
-                        source_indices,
-                    );
-                    PlanPrepared::Prepared(stats(kept, terms))
-                }
+        Binding::Refused(r) => PlanPrepared::Refused(r),
+        Binding::Bound(counts) => match check_room(
+            counts,
+            global_nodes.len(),
+            local_row_ptr.len(),
+            local_col_idx.len(),
+            source_ptr.len(),
+            source_indices.len(),
+        ) {
+            Checked::Refused(r) => PlanPrepared::Refused(r),
+            Checked::Accepted => {
+                inner::write(
+                    nrows,
+                    row_word_ptr,
+                    row_word_indices,
+                    row_masks,
+                    words,
+                    row_ptr,
+                    col_idx,
+                    counts.sources,
+                    global_nodes,
+                    local_row_ptr,
+                    local_col_idx,
+                    source_ptr,
+                    source_indices,
+                );
+                PlanPrepared::Prepared(stats(counts))
             }
-        }
+        },
     }
 }

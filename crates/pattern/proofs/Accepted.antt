@@ -1,5 +1,5 @@
 -- What acceptance gives a pattern: a square topology, a mask of its length, lists that reach their needed lengths. Assumes nothing.
-use mathlib.Core.Path.{_≡_, sym, ap, _∙_, subst}
+use mathlib.Core.Path.{_≡_, sym, ap, ap₂, _∙_, subst}
 use mathlib.Core.Bool.{Bool}
 use mathlib.Core.List.{List}
 use Prim.Native.Nat.{ℕ, _^_, _≤_, _<_}
@@ -50,9 +50,9 @@ module _ (n : ℕ) (p : ℕ → Bool) (s : ℕ → ℕ → Bool) (nodes ptr cols
       record { nodes-room = leb-true _ _ (passed _ _ (a .0)); ptr-room = ltb-true _ _ (passed _ _ (b .0)); columns-room = leb-true _ _ (passed _ _ (b .1)) }
 
   -- the counts decide as the definitions do
-  pub room-is : (counts : RegionKept) → counts ≡ regionKept n p s → roomFor counts (length nodes) (length ptr) (length cols) ≡ patternRoom n p s nodes ptr cols
+  pub room-is : (members kept : ℕ) → members ≡ countBelow n p → kept ≡ pairsInside n p s → roomFor members kept (length nodes) (length ptr) (length cols) ≡ patternRoom n p s nodes ptr cols
   unfolding roomFor patternRoom
-  room-is counts e = ap (λ (c : RegionKept). roomFor c (length nodes) (length ptr) (length cols)) e
+  room-is members kept e k = ap₂ (λ (m h : ℕ). roomFor m h (length nodes) (length ptr) (length cols)) e k
 
   pub stats-are : (stats : AbtmLocalSubmatrixPatternStats) (counts : RegionKept) → stats ≡ statsOf n counts → counts ≡ regionKept n p s → stats ≡ patternStats n p s
   stats-are stats counts e k = e ∙ ap (statsOf n) k

@@ -77,6 +77,10 @@ module _ (idx masks region : List ℕ) (from : ℕ) where
   unfolding keptIn
   kept-le k = sum-most (k - from) 64 (λ j. countBelow 64 (bitAt (keptWord idx masks region (from + j)))) (λ j l. count-le 64 (bitAt (keptWord idx masks region (from + j))))
 
+-- a node's number: the members before its word, and those before its bit in the word
+pub number-at : (region : List ℕ) (w b : ℕ) → b < 64 → numberOf (inMask region) (64 * w + b) ≡ countBelow (64 * w) (inMask region) + countBelow b (bitAt (getD region w 0))
+number-at region w b l = sum-append (64 * w) b _ ∙ ap (λ (x : ℕ). countBelow (64 * w) (inMask region) + x) (count-cong b (λ j. inMask region (64 * w + j)) (bitAt (getD region w 0)) (λ j m. in-word region w j (omega arith)))
+
 module _ (n : ℕ) (ptr idx masks region : List ℕ) (side : IsSide n n ptr idx masks) (mask : IsMask n region) (r : ℕ) (h : r < n) where
   abbrev lo : ℕ
   lo = getD ptr r 0
@@ -119,16 +123,13 @@ module _ (n : ℕ) (ptr idx masks region : List ℕ) (side : IsSide n n ptr idx 
   abbrev numbers : ℕ → List ℕ
   numbers = numbersAt idx masks region lo
 
-  number : (w b : ℕ) → b < 64 → numberOf (inMask region) (64 * w + b) ≡ countBelow (64 * w) (inMask region) + countBelow b (bitAt (getD region w 0))
-  number w b l = sum-append (64 * w) b _ ∙ ap (λ (x : ℕ). countBelow (64 * w) (inMask region) + x) (count-cong b (λ j. inMask region (64 * w + j)) (bitAt (getD region w 0)) (λ j m. in-word region w j (omega arith)))
-
   one : (j : ℕ) → j < hi - lo → map (numberOf (inMask region)) (wordMembers q n idx lo hi (side .rising r h) home j) ≡ numbers j
   unfolding wordMembers
   one j l =
       let w = getD idx (lo + j) 0 in
       map-two (numberOf (inMask region)) (λ (b : ℕ). 64 * w + b) (membersBelow 64 (λ b. q (64 * w + b)))
       ∙ ap (map (λ (b : ℕ). numberOf (inMask region) (64 * w + b))) (members-ext (λ b. q (64 * w + b)) (bitAt (kept (lo + j))) 0 64 (λ b a m. kept-bit (lo + j) (omega arith) (omega arith) b m))
-      ∙ map-alike (λ b. numberOf (inMask region) (64 * w + b)) (λ b. countBelow (64 * w) (inMask region) + countBelow b (bitAt (getD region w 0))) (bitAt (kept (lo + j))) 0 64 (λ b a m t. number w b m)
+      ∙ map-alike (λ b. numberOf (inMask region) (64 * w + b)) (λ b. countBelow (64 * w) (inMask region) + countBelow b (bitAt (getD region w 0))) (bitAt (kept (lo + j))) 0 64 (λ b a m t. number-at region w b m)
 
   pub row-numbers : map (numberOf (inMask region)) (columnsOf n (inMask region) (sideHolds ptr idx masks) r) ≡ joinBelow (hi - lo) (numbersAt idx masks region lo)
   row-numbers =

@@ -49,17 +49,47 @@ module _ (n : ℕ) (s : ℕ → ℕ → Bool) (p : ℕ → Bool) where
   unfolding localRow
   row-length k = length-map (columnsOf n p s (memberAt n p k)) (numberOf p) ∙ count-members n (inside p s (memberAt n p k))
 
--- the members below r are written
-pub record Writing (n : ℕ) (s : ℕ → ℕ → Bool) (region nodes₀ ptr₀ cols₀ nodes ptr cols : List ℕ) (next k r : ℕ) : Type 0 where
+-- the members below r are listed
+pub record Listed (n : ℕ) (region nodes₀ nodes : List ℕ) (k r : ℕ) : Type 0 where
   pub within : r ≤ n
   pub member : r < n → T (inMask region r)
   pub place : k ≡ countBelow r (inMask region)
+  pub done : nodes ≡ written k (membersBelow n (inMask region)) nodes₀
+  pub long : length nodes ≡ length nodes₀
+
+module _ (n : ℕ) (region nodes₀ : List ℕ) where
+  pub list-first : (r : ℕ) → Next n region 0 r → Listed n region nodes₀ nodes₀ 0 r
+  list-first r next = record { within = next .within; member = next .member; place = count-first n region r next; done = refl; long = refl }
+
+  module _ (nodes : List ℕ) (k r : ℕ) (w : Listed n region nodes₀ nodes k r) where
+    -- the list has a place for the next
+    pub list-more : r < n → k < countBelow n (inMask region)
+    list-more l = omega (arith, w .place, count-member n (inMask region) r l (w .member l))
+
+    pub list-turn : r < n → countBelow n (inMask region) ≤ length nodes₀ → (r′ : ℕ) → Next n region (r + 1) r′ → Listed n region nodes₀ (set nodes k r) (k + 1) r′
+    list-turn l room r′ go =
+        let few : k < countBelow n (inMask region) = list-more l in
+        record {
+          within = go .within;
+          member = go .member;
+          place = ap (λ (x : ℕ). x + 1) (w .place) ∙ count-turn n region r r′ (w .member l) go;
+          done = put-next (membersBelow n (inMask region)) nodes₀ nodes k r 0 (omega (arith, few, count-members n (inMask region))) (omega (arith, few)) (w .done) (sym (ap (λ (x : ℕ). getD (membersBelow n (inMask region)) x 0) (w .place) ∙ getD-count n (inMask region) r l (w .member l)));
+          long = length-set nodes k r ∙ w .long;
+        }
+
+    pub list-last : n ≤ r → (k ≡ countBelow n (inMask region)) × (nodes ≡ over (membersBelow n (inMask region)) nodes₀)
+    list-last l =
+        let e : r ≡ n = omega (arith, w .within) in
+        let all : k ≡ countBelow n (inMask region) = w .place ∙ ap (λ (x : ℕ). countBelow x (inMask region)) e in
+        (all, put-end (membersBelow n (inMask region)) nodes₀ nodes k (all ∙ sym (count-members n (inMask region))) (w .done))
+
+-- the members below r are written
+pub record Writing (n : ℕ) (s : ℕ → ℕ → Bool) (region nodes₀ ptr₀ cols₀ nodes ptr cols : List ℕ) (next k r : ℕ) : Type 0 where
+  pub listed : Listed n region nodes₀ nodes k r
   pub here : next ≡ sumOver r (inMask region) (λ i. countBelow n (inside (inMask region) s i))
   pub long : next ≡ length (joinBelow k (localRow n (inMask region) s))
-  pub nodes-done : nodes ≡ written k (membersBelow n (inMask region)) nodes₀
   pub ptr-done : ptr ≡ written (k + 1) (patternPtr n (inMask region) s) ptr₀
   pub cols-done : cols ≡ over (joinBelow k (localRow n (inMask region) s)) cols₀
-  pub nodes-long : length nodes ≡ length nodes₀
   pub ptr-long : length ptr ≡ length ptr₀
   pub cols-long : length cols ≡ length cols₀
 
@@ -76,15 +106,11 @@ module _ (n : ℕ) (s : ℕ → ℕ → Bool) (region nodes₀ ptr₀ cols₀ : 
       let one : 1 ≤ length X = omega (arith, ptr-length n s p) in
       let put : set ptr₀ 0 0 ≡ written 1 X ptr₀ = put-next X ptr₀ ptr₀ 0 0 0 one l refl (sym (ptr-at n s p 0 (omega arith) ∙ ap length (join-none (localRow n p s)))) in
       record {
-        within = next .within;
-        member = next .member;
-        place = count-first n region r next;
+        listed = list-first n region nodes₀ r next;
         here = sum-first n region r f next;
         long = sym (ap length (join-none (localRow n p s)));
-        nodes-done = refl;
         ptr-done = put ∙ sym (put-put X ptr₀ 1 1 (omega arith) one l) ∙ ap (written 1 X) (sym put);
         cols-done = sym (ap (λ (x : List ℕ). over x cols₀) (join-none (localRow n p s)));
-        nodes-long = refl;
         ptr-long = refl;
         cols-long = refl;
       }
@@ -92,18 +118,18 @@ module _ (n : ℕ) (s : ℕ → ℕ → Bool) (region nodes₀ ptr₀ cols₀ : 
   module _ (nodes ptr cols : List ℕ) (next k r : ℕ) (w : Writing n s region nodes₀ ptr₀ cols₀ nodes ptr cols next k r) where
     -- each list has a place for what comes next
     pub more-members : r < n → k < countBelow n p
-    more-members l = omega (arith, w .place, count-member n p r l (w .member l))
+    more-members = list-more n region nodes₀ nodes k r (w .listed)
 
     pub more-pairs : r < n → next + f r ≤ pairsInside n p s
     unfolding pairsInside
-    more-pairs l = omega (arith, w .here, sum-one n region r f (w .member l), sum-mono (r + 1) n (λ i. cond (p i) (f i) 0) (omega arith))
+    more-pairs l = omega (arith, w .here, sum-one n region r f (w .listed .member l), sum-mono (r + 1) n (λ i. cond (p i) (f i) 0) (omega arith))
 
     module _ (l : r < n) (room : countBelow n p ≤ length nodes₀) (pointers : countBelow n p < length ptr₀) (columns : pairsInside n p s ≤ length cols₀) where
       abbrev row : List ℕ
       row = map (numberOf p) (columnsOf n p s r)
 
       grown : joinBelow (k + 1) (localRow n p s) ≡ joinBelow k (localRow n p s) ++ row
-      grown = join-next k (localRow n p s) ∙ ap (λ (x : List ℕ). joinBelow k (localRow n p s) ++ x) (ap (localRow n p s) (w .place) ∙ row-at n s p r l (w .member l))
+      grown = join-next k (localRow n p s) ∙ ap (λ (x : List ℕ). joinBelow k (localRow n p s) ++ x) (ap (localRow n p s) (w .listed .place) ∙ row-at n s p r l (w .listed .member l))
 
       longer : next + f r ≡ length (joinBelow (k + 1) (localRow n p s))
       longer =
@@ -117,18 +143,14 @@ module _ (n : ℕ) (s : ℕ → ℕ → Bool) (region nodes₀ ptr₀ cols₀ : 
       write-turn r′ next′ cols′ go e g =
           let few : k < countBelow n p = more-members l in
           record {
-            within = go .within;
-            member = go .member;
-            place = ap (λ (x : ℕ). x + 1) (w .place) ∙ count-turn n region r r′ (w .member l) go;
-            here = e ∙ ap (λ (x : ℕ). x + f r) (w .here) ∙ sum-turn n region r r′ f (w .member l) go;
+            listed = list-turn n region nodes₀ nodes k r (w .listed) l room r′ go;
+            here = e ∙ ap (λ (x : ℕ). x + f r) (w .here) ∙ sum-turn n region r r′ f (w .listed .member l) go;
             long = e ∙ longer;
-            nodes-done = put-next (membersBelow n p) nodes₀ nodes k r 0 (omega (arith, few, count-members n p)) (omega (arith, few)) (w .nodes-done) (sym (ap (λ (x : ℕ). getD (membersBelow n p) x 0) (w .place) ∙ getD-count n p r l (w .member l)));
             ptr-done = put-next (patternPtr n p s) ptr₀ ptr (k + 1) next′ 0 (omega (arith, few, ptr-length n s p)) (omega (arith, few)) (w .ptr-done) (e ∙ longer ∙ sym (ptr-at n s p (k + 1) (omega (arith, few))));
             cols-done =
                 g ∙ ap₂ (λ (x : ℕ) (y : List ℕ). placed x row y) (w .long) (w .cols-done)
                 ∙ placed-over (joinBelow k (localRow n p s)) row cols₀
                 ∙ ap (λ (x : List ℕ). over x cols₀) (sym grown);
-            nodes-long = length-set nodes k r ∙ w .nodes-long;
             ptr-long = length-set ptr (k + 1) next′ ∙ w .ptr-long;
             cols-long = ap length g ∙ placed-length next row cols fits ∙ w .cols-long;
           }
@@ -136,9 +158,9 @@ module _ (n : ℕ) (s : ℕ → ℕ → Bool) (region nodes₀ ptr₀ cols₀ : 
     pub write-last : n ≤ r → (nodes ≡ over (membersBelow n p) nodes₀) × (ptr ≡ over (patternPtr n p s) ptr₀) × (cols ≡ over (patternColumns n p s) cols₀)
     unfolding patternColumns
     write-last l =
-        let e : r ≡ n = omega (arith, w .within) in
-        let all : k ≡ countBelow n p = w .place ∙ ap (λ (x : ℕ). countBelow x p) e in (
-          put-end (membersBelow n p) nodes₀ nodes k (all ∙ sym (count-members n p)) (w .nodes-done),
+        let nodes-all = list-last n region nodes₀ nodes k r (w .listed) l in
+        let all : k ≡ countBelow n p = nodes-all .0 in (
+          nodes-all .1,
           put-end (patternPtr n p s) ptr₀ ptr (k + 1) (ap (λ (x : ℕ). x + 1) all ∙ sym (ptr-length n s p)) (w .ptr-done),
           w .cols-done ∙ ap (λ (x : ℕ). over (joinBelow x (localRow n p s)) cols₀) all,
         )

@@ -23,9 +23,9 @@ regionKept n p s =
     record { members = countBelow n p; words = sumOver n p (λ r. length (rowWords n (s r))); candidates = sumOver n p (λ r. countBelow n (s r)); kept = pairsInside n p s }
 
 -- 25, by the counts
-unfoldable pub roomFor : RegionKept → ℕ → ℕ → ℕ → Checked
-roomFor c nodes pointers columns =
-    must (leb (c .members) nodes) 25 then must (ltb (c .members) pointers) 25 then must (leb (c .kept) columns) 25
+unfoldable pub roomFor : ℕ → ℕ → ℕ → ℕ → ℕ → Checked
+roomFor members kept nodes pointers columns =
+    must (leb members nodes) 25 then must (ltb members pointers) 25 then must (leb kept columns) 25
 
 -- how many members come before each word
 abbrev pub ranksOf : ℕ → (ℕ → Bool) → List ℕ

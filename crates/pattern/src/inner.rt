@@ -3,6 +3,7 @@ use crate::AbtmLocalSubmatrixPatternStats;
 use crate::RegionKept;
 use crate::RowKept;
 use base::Checked;
+use word::AbtmTopologyWord;
 ghost use mathlib.Core.Path.{_≡_};
 ghost use mathlib.Core.List.{map};
 ghost use Prim.Native.Nat.{ℕ, _+_, _*_, _<_, _≤_};
@@ -62,7 +63,7 @@ pub fn check_region(
 }
 
 // The words of row r: how many, their bits, and those inside the region.
-fn count_row(
+pub fn count_row(
     n: usize,
     row_word_ptr: &[u32],
     word_indices: &[u32],
@@ -125,16 +126,22 @@ pub fn count(
 }
 
 // The lengths of the lists.
-pub fn check_room(counts: RegionKept, nodes: usize, pointers: usize, columns: usize) -> Checked
-    ensures { λ r. ⌜ r ≡ roomFor counts nodes pointers columns ⌝ }
+pub fn check_room(
+    members: usize,
+    kept: usize,
+    nodes: usize,
+    pointers: usize,
+    columns: usize,
+) -> Checked
+    ensures { λ r. ⌜ r ≡ roomFor members kept nodes pointers columns ⌝ }
 {
-    if counts.members > nodes {
+    if members > nodes {
         return base::refused(25);
     }
-    if counts.members >= pointers {
+    if members >= pointers {
         return base::refused(25);
     }
-    if counts.kept > columns {
+    if kept > columns {
         return base::refused(25);
     }
     Checked::Accepted
@@ -156,8 +163,29 @@ pub fn stats(n: usize, counts: RegionKept) -> AbtmLocalSubmatrixPatternStats
     }
 }
 
+// The members in rising order. How many there are.
+pub fn write_nodes(n: usize, region: &[u64], nodes: &mut [u32]) -> usize
+    requires { ⌜ IsMask n (now region) × (countBelow n (inMask (now region)) ≤ length (now nodes)) ⌝ }
+    ensures { λ k. ⌜ k ≡ countBelow n (inMask (now (region .entry))) ⌝ }
+    ensures { λ _. ⌜ now (nodes .exit) ≡ over (membersBelow n (inMask (now (region .entry)))) (now (nodes .entry)) ⌝ }
+{
+    let mut k: usize = 0;
+    let mut w: usize = 0;
+    while w < region.len() {
+        let first = (w * AbtmTopologyWord::BITS) as u32;
+        let mut bits = region[w];
+        while bits != 0 {
+            nodes[k] = first + u64::trailing_zeros(bits);
+            k += 1;
+            bits = bits & (bits - 1);
+        }
+        w += 1;
+    }
+    k
+}
+
 // How many members come before each word of the region.
-fn fill_ranks(n: usize, region: &[u64], ranks: &mut [u32])
+pub fn fill_ranks(n: usize, region: &[u64], ranks: &mut [u32])
     requires { ⌜ IsMask n (now region) × (wordsFor n ≤ length (now ranks)) ⌝ }
     ensures { λ _. ⌜ now (ranks .exit) ≡ over (ranksOf n (inMask (now (region .entry)))) (now (ranks .entry)) ⌝ }
 {
@@ -188,7 +216,7 @@ fn write_word(first: u32, inside: u64, bits: u64, cols: &mut [u32], at: usize) -
 }
 
 // The columns of row r that are inside, each by its number: written from `at` on. Where they end.
-fn write_row(
+pub fn write_row(
     n: usize,
     row_word_ptr: &[u32],
     word_indices: &[u32],

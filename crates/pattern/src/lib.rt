@@ -106,7 +106,13 @@ pub fn extract_local_submatrix_pattern(
         Checked::Refused(r) => PatternExtracted::Refused(r),
         Checked::Accepted => {
             let kept = inner::count(nrows, row_word_ptr, row_word_indices, row_masks, words);
-            match inner::check_room(kept, global_nodes.len(), row_ptr.len(), col_idx.len()) {
+            match inner::check_room(
+                kept.members,
+                kept.kept,
+                global_nodes.len(),
+                row_ptr.len(),
+                col_idx.len(),
+            ) {
                 Checked::Refused(r) => PatternExtracted::Refused(r),
                 Checked::Accepted => {
                     inner::write(

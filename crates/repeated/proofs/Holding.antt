@@ -24,8 +24,7 @@ use Rattle.numeric_plan.specs.Plan.{pairEntries, planInputs, planCheck, planAns
 use Rattle.numeric_plan.specs.declared.AbtmLocalNumericPlanStats.{AbtmLocalNumericPlanStats}
 use Rattle.numeric_plan.specs.declared.PlanPrepared.{PlanPrepared}
 use Rattle.numeric_plan.proofs.Accepted.{accepted-inputs}
-use Rattle.numeric_plan.proofs.Pairs.{lists-length, sources-length}
-use Rattle.numeric_plan.proofs.Patterns.{pattern-pairs}
+use Rattle.numeric_plan.proofs.Pairs.{pattern-pairs, lists-length, sources-length}
 use Rattle.numeric_plan.proofs.Prepared.{Room}
 use Rattle.repeated.specs.Held.{Binds, PlanHeld}
 use Rattle.repeated.proofs.Rewriting.{holds}

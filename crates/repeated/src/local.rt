@@ -1,8 +1,8 @@
 // The pattern of a region, its plan and a gather, each made many times after one check of its inputs: it leaves and answers what one call does.
 use crate::Answer;
-use base::Checked;
 use base::Counted;
 use base::Refusal;
+use binding::Binding;
 use numeric_plan::PlanPrepared;
 use pattern::PatternExtracted;
 ghost use mathlib.Core.Path.{_≡_};
@@ -151,7 +151,7 @@ fn settle(
     requires { ⌜ Binds n (now «row_word_ptr») (now «word_indices») (now masks) (now «row_ptr») (now «col_idx») (now region) ⌝ }
     ensures { λ r. ⌜ r ≡ sourcesInside n (inMask (now (region .entry))) (now («row_ptr» .entry)) (now («col_idx» .entry)) ⌝ }
 {
-    match binding::inner::check_rows(
+    match binding::inner::bind(
         n,
         row_word_ptr,
         word_indices,
@@ -160,8 +160,8 @@ fn settle(
         col_idx,
         region,
     ) {
-        Checked::Refused(_) => 0,
-        Checked::Accepted => binding::inner::count_sources(n, region, row_ptr, col_idx),
+        Binding::Refused(_) => 0,
+        Binding::Bound(counts) => counts.sources,
     }
 }
 
@@ -174,35 +174,29 @@ fn write_plan(
     row_ptr: &[u32],
     col_idx: &[u32],
     region: &[u64],
+    terms: usize,
     nodes: &mut [u32],
     local_ptr: &mut [u32],
     local_cols: &mut [u32],
     source_ptr: &mut [u32],
     sources: &mut [u32],
 )
-    requires { ⌜ PlanHeld n (now «row_word_ptr») (now «word_indices») (now masks) (now «row_ptr») (now «col_idx») (now region) (now nodes) (now «local_ptr») (now «local_cols») (now «source_ptr») (now sources) ⌝ }
+    requires { ⌜ PlanHeld n (now «row_word_ptr») (now «word_indices») (now masks) (now «row_ptr») (now «col_idx») (now region) (now nodes) (now «local_ptr») (now «local_cols») (now «source_ptr») (now sources) × (terms ≡ sourcesInside n (inMask (now region)) (now «row_ptr») (now «col_idx»)) ⌝ }
     ensures members { λ _. ⌜ now (nodes .exit) ≡ now (nodes .entry) ⌝ }
     ensures pointers { λ _. ⌜ now («local_ptr» .exit) ≡ now («local_ptr» .entry) ⌝ }
     ensures columns { λ _. ⌜ now («local_cols» .exit) ≡ now («local_cols» .entry) ⌝ }
     ensures starts { λ _. ⌜ now («source_ptr» .exit) ≡ now («source_ptr» .entry) ⌝ }
     ensures entries { λ _. ⌜ now (sources .exit) ≡ now (sources .entry) ⌝ }
 {
-    let kept = pattern::inner::count(n, row_word_ptr, word_indices, masks, region);
-    pattern::inner::write(
+    numeric_plan::inner::write(
         n,
         row_word_ptr,
         word_indices,
         masks,
         region,
-        nodes,
-        local_ptr,
-        local_cols,
-    );
-    numeric_plan::inner::write_sources(
-        n,
         row_ptr,
         col_idx,
-        kept.members,
+        terms,
         nodes,
         local_ptr,
         local_cols,
@@ -256,6 +250,7 @@ fn repeat_plan(
             row_ptr,
             col_idx,
             region,
+            terms,
             nodes,
             local_ptr,
             local_cols,

@@ -1,6 +1,8 @@
 pub mod Entries
+pub mod Inside
 pub mod Rows
-pub mod Passing
+pub mod Chosen
+pub mod Pairs
 pub mod Filled
 pub mod Slots
 pub mod Counted

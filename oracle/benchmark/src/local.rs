@@ -9,12 +9,14 @@ use hybit_original::{
     prepare_local_numeric_plan,
 };
 
-use crate::measure::{Table, single};
+use crate::measure::{Table, single, warm};
 use crate::sides::Topology;
 use crate::topology::matrices::{Order, banded, canonical, long_rows};
 use port::Lent;
 
-/// At most so much of the Rust's time.
+/// At most so much of the Rust's time, one call at a time. The port's work
+/// without its checks is the mean of calls that follow one another; what the
+/// Rust takes where its calls do so stands under it.
 const PATTERN: f64 = 1.0;
 const PLAN: f64 = 0.3;
 const GATHER: f64 = 1.0;
@@ -135,6 +137,10 @@ impl<'a> Local<'a> {
         let whole = table.row_within(PATTERN, "local pattern", input, call, original());
         if let Some(inner) = port::inner_pattern(port, region, lent) {
             let inner = table.row_within(PATTERN, "  without checks", input, inner, original());
+            table.in_a_row(
+                inner,
+                warm(|| extract_local_submatrix_pattern(rust, region)),
+            );
             table.checks(whole, inner);
         }
     }
@@ -155,6 +161,10 @@ impl<'a> Local<'a> {
         let whole = table.row_within(PLAN, "local numeric plan", input, call, original());
         if let Some(inner) = port::inner_plan(port, matrix, region, lent) {
             let inner = table.row_within(PLAN, "  without checks", input, inner, original());
+            table.in_a_row(
+                inner,
+                warm(|| prepare_local_numeric_plan(rust, matrix, region)),
+            );
             table.checks(whole, inner);
         }
     }
@@ -172,6 +182,7 @@ impl<'a> Local<'a> {
         let whole = table.row_within(GATHER, "gather_values", input, call, original());
         if let Some(inner) = port::inner_gather(values, lent) {
             let inner = table.row_within(GATHER, "  without checks", input, inner, original());
+            table.in_a_row(inner, warm(|| plan.gather_values(values)));
             table.checks(whole, inner);
         }
     }

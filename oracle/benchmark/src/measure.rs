@@ -14,6 +14,9 @@ const FEW: usize = 3;
 /// time and its steps do not count.
 pub const SAMPLE_TIME: Duration = Duration::from_millis(1);
 
+/// A sample of calls that follow one another takes at least so long.
+const WARM_TIME: Duration = Duration::from_millis(100);
+
 /// Takes one sample: the time of one call in microseconds.
 pub type Sample<'a> = Box<dyn FnMut() -> f64 + 'a>;
 
@@ -51,6 +54,24 @@ pub fn repeated<'a, O>(mut work: impl FnMut(usize) -> O + 'a) -> Sample<'a> {
             }
             calls *= 2;
         }
+    })
+}
+
+/// The mean of calls that follow one another, after one that is not counted;
+/// what each returns is dropped while the clock stands.
+pub fn warm<'a, O>(mut work: impl FnMut() -> O + 'a) -> Sample<'a> {
+    Box::new(move || {
+        drop(black_box(work()));
+        let mut time = Duration::ZERO;
+        let mut calls = 0;
+        while time < WARM_TIME {
+            let start = Instant::now();
+            let output = black_box(work());
+            time += start.elapsed();
+            drop(output);
+            calls += 1;
+        }
+        microseconds(time) / f64::from(calls)
     })
 }
 
@@ -139,6 +160,17 @@ impl Table {
             "{:<28} {:.3} of the port's time, {part:.1} %",
             "  checks",
             whole - inner
+        );
+    }
+
+    /// Prints under a row of work without checks the Rust's time where its calls
+    /// follow one another, as the port's do there, and the ratio to that.
+    pub fn in_a_row(&mut self, port: f64, mut rust: Sample) {
+        let rust = median((0..FEW).map(|_| rust()).collect());
+        println!(
+            "{:<28} the Rust's calls in a row {rust:.3}, ratio {:.2}",
+            "  warm",
+            port / rust
         );
     }
 

@@ -1,14 +1,18 @@
 -- `numeric_plan::check_inputs` meets its contract. Assumes nothing.
 use borrow.Author.Needs.{needs}
-use mathlib.Core.Path.{_≡_, sym, _∙_}
+use mathlib.Core.Path.{_≡_, refl, sym, ap, _∙_}
 use native.Mathlib.Omega.{arith}
-use Rattle.base.specs.Checks.{_then_}
+use Rattle.base.specs.Checks.{_then_, after}
 use Rattle.base.specs.declared.Checked.{Checked}
-use Rattle.base.proofs.Checks.{group-pass, group-stop}
+use Rattle.base.proofs.Checks.{on-refused, group-pass, group-stop}
 use Rattle.csr32.specs.Matrix.{matrixCheck}
 use Rattle.csr32.proofs.Matrix.{accepted}
+use Rattle.mask.specs.Mask.{inMask}
+use Rattle.side.specs.Side.{sideHolds}
 use Rattle.dual_topology.specs.Check.{topologyCheck}
 use Rattle.pattern.specs.Pattern.{regionCheck}
+use Rattle.binding.specs.Steps.{countsOf}
+use Rattle.binding.specs.declared.Binding.{Binding}
 use Rattle.numeric_plan.specs.Plan.{sidesCheck, planInputs}
 use Rattle.numeric_plan.proofs.Accepted.{Region, accepted-region, square-matrix}
 use Rattle.numeric_plan.proofs.check_inputs.Statement.{statement}
@@ -48,23 +52,26 @@ enum-known-r-2 c = search needs
 enum-told-2 : tie.Need-enum-told-2
 enum-told-2 c = search needs
 
-check-rows-requires : tie.Need-check-rows-requires
-check-rows-requires c κs =
+bind-requires : tie.Need-bind-requires
+bind-requires c κs =
     let s = c .before .before .before .before .before .before .before .before .before .before .before .before .before .before .before .before in
     let g = good c in
     (g .topology .rows, square-matrix (s .args .matrix-nrows) (s .args .matrix-ncols) (s .args .nrows) (s .args .row-ptr .now) (s .args .col-idx .now) (g .as-rows) (g .as-cols) (accepted (s .args .matrix-nrows) (s .args .matrix-ncols) (s .args .row-ptr .now) (s .args .col-idx .now) (s .args .values .now) (matrix (c .before .before .before)) .matrix), g .mask)
 
 returns : tie.Need-returns
 unfolding planInputs
-returns c = group-stop _ _ _ (sym (c .before .before .before .validate .ensures) ∙ c .before .r .given .1)
+returns c = on-refused _ _ _ Binding.Refused (sym (group-stop _ _ _ (sym (c .before .before .before .validate .ensures) ∙ c .before .r .given .1)))
 
 returns-2 : tie.Need-returns-2
 unfolding planInputs
-returns-2 c = group-pass _ _ _ (matrix (c .before .before .before .before)) (group-stop _ _ _ (sym (c .before .before .before .check-region .ensures) ∙ c .before .r2 .given .1))
+returns-2 c = on-refused _ _ _ Binding.Refused (sym (group-pass _ _ _ (matrix (c .before .before .before .before)) (group-stop _ _ _ (sym (c .before .before .before .check-region .ensures) ∙ c .before .r2 .given .1))))
 
 returns-3 : tie.Need-returns-3
 unfolding planInputs
-returns-3 c = group-pass _ _ _ (matrix (c .before .before .before .before)) (group-pass _ _ _ (region (c .before)) (c .check-rows .ensures))
+returns-3 c =
+    let s = c .before .before .before .before .before .before .before .before .before .before .before .before .before .before .before .before .before in
+    let held = Binding.Bound (countsOf (s .args .nrows) (inMask (s .args .words .now)) (sideHolds (s .args .row-word-ptr .now) (s .args .row-word-indices .now) (s .args .row-masks .now)) (s .args .row-ptr .now) (s .args .col-idx .now)) in
+    c .bind .ensures ∙ ap (λ (k : Checked). after k held Binding.Refused) (group-pass _ _ _ (matrix (c .before .before .before .before)) (group-pass _ _ _ (region (c .before)) refl))
 
 pub check-inputs-spec : {M : Type 1} → statement M
 check-inputs-spec =
@@ -76,7 +83,7 @@ check-inputs-spec =
     check-region-requires
     enum-known-r-2
     enum-told-2
-    check-rows-requires
+    bind-requires
     returns
     returns-2
     returns-3)

@@ -28,7 +28,7 @@ refused-requires-2 c κs = search needs
 
 returns-2 : tie.Need-returns-2
 unfolding planRoomFor
-returns-2 c = group-pass _ _ _ (sym (c .before .before .before .before .before .before .check-room .ensures) ∙ c .before .before .before .before .enum-told .given .1) (pass _ _ _ _ (lt-ltb _ _ (c .before .before .if1 .left)) (last-stop _ _ _ (lt-leb _ _ (c .before .if2 .taken)) (c .refused2 .ensures)))
+returns-2 c = group-pass _ _ _ (sym (c .before .before .before .before .before .before .before .check-room .ensures) ∙ c .before .before .before .before .before .enum-told .given .1) (pass _ _ _ _ (lt-ltb _ _ (c .before .before .before .if1 .left)) (last-stop _ _ _ (lt-leb _ _ (c .before .if2 .taken)) (c .refused2 .ensures)))
 
 returns-3 : tie.Need-returns-3
 unfolding planRoomFor
@@ -36,7 +36,7 @@ returns-3 c = group-stop _ _ _ (sym (c .before .before .before .check-room .ensu
 
 returns-4 : tie.Need-returns-4
 unfolding planRoomFor
-returns-4 c = group-pass _ _ _ (sym (c .before .before .before .before .before .check-room .ensures) ∙ c .before .before .before .enum-told .given .1) (pass _ _ _ _ (lt-ltb _ _ (c .before .if1 .left)) (last-pass _ _ _ (le-leb _ _ (c .if2 .left)) refl))
+returns-4 c = group-pass _ _ _ (sym (c .before .before .before .before .before .before .check-room .ensures) ∙ c .before .before .before .before .enum-told .given .1) (pass _ _ _ _ (lt-ltb _ _ (c .before .before .if1 .left)) (last-pass _ _ _ (le-leb _ _ (c .if2 .left)) refl))
 
 pub check-room-spec : {M : Type 1} → statement M
 check-room-spec =

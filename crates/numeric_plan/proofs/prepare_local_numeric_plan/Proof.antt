@@ -6,7 +6,6 @@ use mathlib.Core.List.{List}
 use Prim.Native.Nat.{ℕ}
 use native.Mathlib.Omega.{arith}
 use Rattle.base.specs.Checks.{_then_}
-use Rattle.base.specs.Lists.{over}
 use Rattle.base.specs.declared.Checked.{Checked}
 use Rattle.base.proofs.Checks.{on-accepted, on-refused, kept, group-pass, group-stop}
 use Rattle.mask.specs.Mask.{inMask}
@@ -14,12 +13,13 @@ use Rattle.csr32.specs.Matrix.{matrixCheck, stored}
 use Rattle.side.specs.Side.{sideHolds}
 use Rattle.dual_topology.specs.Check.{topologyCheck}
 use Rattle.pattern.specs.Pattern.{patternRoom}
-use Rattle.pattern.specs.declared.RegionKept.{RegionKept}
-use Rattle.pattern.proofs.Counting.{kept-small}
+use Rattle.binding.specs.Steps.{countsOf}
+use Rattle.binding.specs.declared.Counts.{Counts}
+use Rattle.binding.proofs.Answers.{bound-passes, refused-stops}
 use Rattle.numeric_plan.specs.Plan.{pairEntries, planInputs, planRoom, planCheck}
 use Rattle.numeric_plan.specs.declared.PlanPrepared.{PlanPrepared}
 use Rattle.numeric_plan.proofs.Accepted.{Accepts, accepted-inputs}
-use Rattle.numeric_plan.proofs.Prepared.{holds, Room, plan-fits, sources-fit, plan-room, terms-few, sources-small, kept-few, stats-are}
+use Rattle.numeric_plan.proofs.Prepared.{Room, plan-fits, plan-room, counted-sources, counts-small, stats-are}
 use Rattle.numeric_plan.proofs.prepare_local_numeric_plan.Statement.{statement}
 use Rattle.numeric_plan.proofs.prepare_local_numeric_plan.Tie as tie
 
@@ -47,36 +47,39 @@ abbrev whole : tie.Start → Checked
 whole s =
     planCheck (check s) (s .args .nrows) (region s) (pairs s) (lists s) (s .args .global-nodes .now) (s .args .local-row-ptr .now) (s .args .local-col-idx .now) (s .args .source-ptr .now) (s .args .source-indices .now)
 
--- in this arm the inputs are accepted
-module _ (c : tie.After-enum-told) where
+-- in this arm the inputs are accepted, and these are their counts
+module _ (c : tie.After-known-told2) where
   abbrev s : tie.Start
-  s = c .before .before .before .before .before .before .before .before .before .before .before .before .before .before .before .before .before .before
+  s = c .before .before .before .before .before .before .before .before .before .before .before .before .before .before .before .before .before .before .before
 
-  ok : check s ≡ Checked.Accepted
-  ok = sym (c .before .before .check-inputs .ensures) ∙ c .enum-told .given .1
+  abbrev counts : Counts
+  counts = c .before .counts .given .0 .0
+
+  passes : (check s ≡ Checked.Accepted) × (counts ≡ countsOf (s .args .nrows) (region s) (pairs s) (s .args .row-ptr .now) (s .args .col-idx .now))
+  passes = bound-passes (check s) (countsOf (s .args .nrows) (region s) (pairs s) (s .args .row-ptr .now) (s .args .col-idx .now)) counts (sym (c .before .counts .given .1) ∙ c .before .before .before .check-inputs .ensures)
 
   good : Accepts (s .args .nrows) (s .args .row-word-ptr .now) (s .args .row-word-indices .now) (s .args .row-masks .now) (s .args .column-word-ptr .now) (s .args .column-word-indices .now) (s .args .column-masks .now) (s .args .words .now) (s .args .row-ptr .now) (s .args .col-idx .now) (s .args .values .now)
   good =
-      accepted-inputs (s .args .nrows) (s .args .ncols) (s .args .row-word-ptr .now) (s .args .row-word-indices .now) (s .args .row-masks .now) (s .args .structural-nnz) (s .args .column-nrows) (s .args .column-ncols) (s .args .column-word-ptr .now) (s .args .column-word-indices .now) (s .args .column-masks .now) (s .args .column-structural-nnz) (s .args .matrix-nrows) (s .args .matrix-ncols) (s .args .row-ptr .now) (s .args .col-idx .now) (s .args .values .now) (s .args .len) (s .args .words .now) (λ k. omega (arith, c .before .before .before .before .before .before .before .before .before .before .before .before .before .before .before .shared-slice-known3 .given k)) (λ k. omega (arith, c .before .before .before .before .before .before .before .before .before .before .before .before .shared-slice-known6 .given k)) (λ k. omega (arith, c .before .before .before .before .before .before .before .before .shared-slice-known10 .given k)) ok
+      accepted-inputs (s .args .nrows) (s .args .ncols) (s .args .row-word-ptr .now) (s .args .row-word-indices .now) (s .args .row-masks .now) (s .args .structural-nnz) (s .args .column-nrows) (s .args .column-ncols) (s .args .column-word-ptr .now) (s .args .column-word-indices .now) (s .args .column-masks .now) (s .args .column-structural-nnz) (s .args .matrix-nrows) (s .args .matrix-ncols) (s .args .row-ptr .now) (s .args .col-idx .now) (s .args .values .now) (s .args .len) (s .args .words .now) (λ k. omega (arith, c .before .before .before .before .before .before .before .before .before .before .before .before .before .before .before .before .shared-slice-known3 .given k)) (λ k. omega (arith, c .before .before .before .before .before .before .before .before .before .before .before .before .before .shared-slice-known6 .given k)) (λ k. omega (arith, c .before .before .before .before .before .before .before .before .before .shared-slice-known10 .given k)) (passes .0)
 
 -- the room that the counts say
-counted : (c : tie.After-check-room) → c .check-room .result ≡ room (c .before .before .before .before .before .before .before .before .before .before .before .before .before .before .before .before .before .before .before .before .before)
+counted : (c : tie.After-check-room) → c .check-room .result ≡ room (c .before .before .before .before .before .before .before .before .before .before .before .before .before .before .before .before .before .before .before .before)
 counted c =
-    let s = c .before .before .before .before .before .before .before .before .before .before .before .before .before .before .before .before .before .before .before .before .before in
-    let g = good (c .before .before .before) in
-    c .check-room .ensures ∙ plan-room (s .args .nrows) (region s) (pairs s) (s .args .row-ptr .now) (s .args .col-idx .now) (g .matrix) (g .binds) _ _ (c .before .before .count .ensures) (c .before .count-sources .ensures) (s .args .global-nodes .now) (s .args .local-row-ptr .now) (s .args .local-col-idx .now) (s .args .source-ptr .now) (s .args .source-indices .now)
+    let s = c .before .before .before .before .before .before .before .before .before .before .before .before .before .before .before .before .before .before .before .before in
+    let g = good (c .before) in
+    c .check-room .ensures ∙ plan-room (s .args .nrows) (region s) (pairs s) (s .args .row-ptr .now) (s .args .col-idx .now) (g .matrix) (g .binds) (counts (c .before)) (passes (c .before) .1) (s .args .global-nodes .now) (s .args .local-row-ptr .now) (s .args .local-col-idx .now) (s .args .source-ptr .now) (s .args .source-indices .now)
 
 -- and here the lists reach their needed lengths
-module _ (c : tie.After-enum-told2) where
+module _ (c : tie.After-enum-told) where
   abbrev s2 : tie.Start
-  s2 = c .before .before .before .before .before .before .before .before .before .before .before .before .before .before .before .before .before .before .before .before .before .before .before
+  s2 = c .before .before .before .before .before .before .before .before .before .before .before .before .before .before .before .before .before .before .before .before .before .before
 
   enough : room s2 ≡ Checked.Accepted
-  enough = sym (counted (c .before .before)) ∙ c .enum-told2 .given .1
+  enough = sym (counted (c .before .before)) ∙ c .enum-told .given .1
 
   all : whole s2 ≡ Checked.Accepted
   unfolding planCheck
-  all = sym (group-pass _ _ _ (ok (c .before .before .before .before .before)) (sym enough))
+  all = sym (group-pass _ _ _ (passes (c .before .before .before) .0) (sym enough))
 
   long : Room (s2 .args .nrows) (region s2) (pairs s2) (s2 .args .row-ptr .now) (s2 .args .col-idx .now) (s2 .args .global-nodes .now) (s2 .args .local-row-ptr .now) (s2 .args .local-col-idx .now) (s2 .args .source-ptr .now) (s2 .args .source-indices .now)
   long = plan-fits (s2 .args .nrows) (region s2) (pairs s2) (s2 .args .row-ptr .now) (s2 .args .col-idx .now) (s2 .args .global-nodes .now) (s2 .args .local-row-ptr .now) (s2 .args .local-col-idx .now) (s2 .args .source-ptr .now) (s2 .args .source-indices .now) enough
@@ -87,14 +90,8 @@ check-inputs-requires c κs = search needs
 enum-known-r : tie.Need-enum-known-r
 enum-known-r c = search needs
 
-enum-told : tie.Need-enum-told
-enum-told c = search needs
-
-count-requires : tie.Need-count-requires
-count-requires c κs = (good c .topology .rows, good c .mask)
-
-count-sources-requires : tie.Need-count-sources-requires
-count-sources-requires c κs = (good (c .before) .matrix, good (c .before) .mask)
+enum-known-counts : tie.Need-enum-known-counts
+enum-known-counts c = search needs
 
 check-room-requires : tie.Need-check-room-requires
 check-room-requires c κs = search needs
@@ -102,46 +99,36 @@ check-room-requires c κs = search needs
 enum-known-r-2 : tie.Need-enum-known-r-2
 enum-known-r-2 c = search needs
 
-enum-told-2 : tie.Need-enum-told-2
-enum-told-2 c = search needs
+enum-told : tie.Need-enum-told
+enum-told c = search needs
 
 write-requires : tie.Need-write-requires
 write-requires c κs =
+    let s = c .before .before .before .before .before .before .before .before .before .before .before .before .before .before .before .before .before .before .before .before .before .before .before .before .before .before .before in
     let g = good (c .before .before .before .before .before .before .before .before) in
-    let f = long (c .before .before .before) .pattern-room in
-    (g .topology .rows, g .mask, f .nodes-room, f .ptr-room, f .columns-room)
-
-write-sources-requires : tie.Need-write-sources-requires
-write-sources-requires c κs =
-    let s = c .before .before .before .before .before .before .before .before .before .before .before .before .before .before .before .before .before .before .before .before .before .before .before .before .before .before .before .before .before .before .before .before .before .before .before .before .before .before in
-    let g = good (c .before .before .before .before .before .before .before .before .before .before .before .before .before .before .before .before .before .before .before .before) in
-    let w = c .before .before .before .before .before .before .before .before .before .before .before .write .ensures in
-    let h = holds (s .args .nrows) (region s) (pairs s) (s .args .row-ptr .now) (s .args .col-idx .now) (s .args .global-nodes .now) (s .args .local-row-ptr .now) (s .args .local-col-idx .now) _ _ _ _ (ap (λ (k : RegionKept). k .members) (c .before .before .before .before .before .before .before .before .before .before .before .before .before .before .before .before .before .before .before .count .ensures)) (w .0) (w .1 .0) (w .1 .1) in
-    let f = sources-fit _ _ _ _ _ _ _ _ _ _ _ _ _ _ (long (c .before .before .before .before .before .before .before .before .before .before .before .before .before .before .before)) h in
-    (g .matrix, h .pattern, f .0, f .1, sources-small _ _ _ _ _ (g .matrix) (g .binds) _ _ (c .before .before .before .before .before .before .before .before .before .before .before .before .before .before .before .before .before .before .before .count .ensures) (c .before .before .before .before .before .before .before .before .before .before .before .before .before .before .before .before .before .before .count-sources .ensures) _ _ _ _ h)
+    let l = long (c .before .before .before .before .before) in
+    let f = l .pattern-room in
+    let terms = counted-sources (s .args .nrows) (region s) (pairs s) (s .args .row-ptr .now) (s .args .col-idx .now) (g .matrix) (g .binds) (counts (c .before .before .before .before .before .before .before .before)) (passes (c .before .before .before .before .before .before .before .before) .1) in
+    (g .topology .rows, g .matrix, g .mask, g .binds, f .nodes-room, f .ptr-room, f .columns-room, l .pointers-room, terms, omega (arith, terms, l .sources-room))
 
 stats-requires : tie.Need-stats-requires
 stats-requires c κs =
-    let s = c .before .before .before .before .before .before .before .before .before .before .before .before .before .before .before .before .before .before .before .before .before .before .before .before .before .before .before .before .before .before .before .before .before .before .before .before .before .before .before .before .before .before .before in
-    let g = good (c .before .before .before .before .before .before .before .before .before .before .before .before .before .before .before .before .before .before .before .before .before .before .before .before .before) in (
-      rw (c .before .before .before .before .before .before .before .before .before .before .before .before .before .before .before .before .before .before .before .before .before .before .before .before .count .ensures) (kept-small (s .args .nrows) (s .args .row-word-ptr .now) (s .args .row-word-indices .now) (s .args .row-masks .now) (g .topology .rows) (region s)),
-      terms-few _ _ _ _ _ (g .matrix) (g .binds) _ _ (c .before .before .before .before .before .before .before .before .before .before .before .before .before .before .before .before .before .before .before .before .before .before .before .before .count .ensures) (c .before .before .before .before .before .before .before .before .before .before .before .before .before .before .before .before .before .before .before .before .before .before .before .count-sources .ensures),
-      kept-few _ _ _ _ _ (g .matrix) (g .binds) _ _ (c .before .before .before .before .before .before .before .before .before .before .before .before .before .before .before .before .before .before .before .before .before .before .before .before .count .ensures) (c .before .before .before .before .before .before .before .before .before .before .before .before .before .before .before .before .before .before .before .before .before .before .before .count-sources .ensures),
-    )
+    let g = good (c .before .before .before .before .before .before .before .before .before .before .before .before .before .before .before .before .before .before .before) in
+    counts-small _ _ _ _ _ (g .matrix) (g .binds) (counts (c .before .before .before .before .before .before .before .before .before .before .before .before .before .before .before .before .before .before .before)) (passes (c .before .before .before .before .before .before .before .before .before .before .before .before .before .before .before .before .before .before .before) .1)
 
 returns : tie.Need-returns
 unfolding planCheck
 returns c =
     let s = c .before .before .before .before .before .before .before .before .before .before .before .before .before .before .before .before .before .before .before in
-    let e : whole s ≡ Checked.Refused _ = sym (group-stop _ (room s) _ (sym (c .before .before .before .check-inputs .ensures) ∙ c .before .r .given .1)) in
+    let e : whole s ≡ Checked.Refused _ = sym (group-stop _ (room s) _ (refused-stops _ _ _ (sym (c .before .r .given .1) ∙ c .before .before .before .check-inputs .ensures))) in
     (on-refused _ _ _ PlanPrepared.Refused e, (kept _ _ _ _ e, (kept _ _ _ _ e, (kept _ _ _ _ e, (kept _ _ _ _ e, kept _ _ _ _ e)))))
 
 returns-2 : tie.Need-returns-2
 unfolding planCheck
 returns-2 c =
-    let s = c .before .before .before .before .before .before .before .before .before .before .before .before .before .before .before .before .before .before .before .before .before .before .before .before in
+    let s = c .before .before .before .before .before .before .before .before .before .before .before .before .before .before .before .before .before .before .before .before .before .before .before in
     let no-room : room s ≡ Checked.Refused _ = sym (counted (c .before .before .before)) ∙ c .before .r2 .given .1 in
-    let e : whole s ≡ Checked.Refused _ = sym (group-pass _ _ _ (ok (c .before .before .before .before .before .before)) (sym no-room)) in
+    let e : whole s ≡ Checked.Refused _ = sym (group-pass _ _ _ (passes (c .before .before .before .before) .0) (sym no-room)) in
     (on-refused _ _ _ PlanPrepared.Refused e, (kept _ _ _ _ e, (kept _ _ _ _ e, (kept _ _ _ _ e, (kept _ _ _ _ e, kept _ _ _ _ e)))))
 
 same-length : tie.Need-same-length
@@ -161,22 +148,20 @@ same-length-5 c = search needs
 
 returns-3 : tie.Need-returns-3
 returns-3 c =
-    let s = c .before .before .before .before .before .before .before .before .before .before .before .before .before .before .before .before .before .before .before .before .before .before .before .before .before .before .before .before .before .before .before .before .before .before .before .before .before .before .before .before .before .before .before .before in
-    let g = good (c .before .before .before .before .before .before .before .before .before .before .before .before .before .before .before .before .before .before .before .before .before .before .before .before .before .before) in
-    let e = all (c .before .before .before .before .before .before .before .before .before .before .before .before .before .before .before .before .before .before .before .before .before) in
-    let w = c .before .before .before .before .before .before .before .before .before .before .before .before .before .before .before .before .before .write .ensures in
-    let v = c .before .before .before .before .before .write-sources .ensures in
-    let h = holds (s .args .nrows) (region s) (pairs s) (s .args .row-ptr .now) (s .args .col-idx .now) (s .args .global-nodes .now) (s .args .local-row-ptr .now) (s .args .local-col-idx .now) _ _ _ _ (ap (λ (k : RegionKept). k .members) (c .before .before .before .before .before .before .before .before .before .before .before .before .before .before .before .before .before .before .before .before .before .before .before .before .before .count .ensures)) (w .0) (w .1 .0) (w .1 .1) in (
-      on-accepted _ _ _ _ e (ap PlanPrepared.Prepared (stats-are (s .args .nrows) (region s) (pairs s) (s .args .row-ptr .now) (s .args .col-idx .now) (g .matrix) (g .binds) _ _ (c .before .before .before .before .before .before .before .before .before .before .before .before .before .before .before .before .before .before .before .before .before .before .before .before .before .count .ensures) (c .before .before .before .before .before .before .before .before .before .before .before .before .before .before .before .before .before .before .before .before .before .before .before .before .count-sources .ensures) _ (c .stats .ensures))),
+    let s = c .before .before .before .before .before .before .before .before .before .before .before .before .before .before .before .before .before .before .before .before .before .before .before .before .before .before .before .before .before .before .before .before .before .before .before .before .before .before .before in
+    let g = good (c .before .before .before .before .before .before .before .before .before .before .before .before .before .before .before .before .before .before .before .before) in
+    let e = all (c .before .before .before .before .before .before .before .before .before .before .before .before .before .before .before .before .before) in
+    let w = c .before .before .before .before .before .before .before .before .before .before .before .write .ensures in (
+      on-accepted _ _ _ _ e (ap PlanPrepared.Prepared (stats-are (s .args .nrows) (region s) (pairs s) (s .args .row-ptr .now) (s .args .col-idx .now) (g .matrix) (g .binds) (counts (c .before .before .before .before .before .before .before .before .before .before .before .before .before .before .before .before .before .before .before .before)) (passes (c .before .before .before .before .before .before .before .before .before .before .before .before .before .before .before .before .before .before .before .before) .1) _ (c .stats .ensures))),
       (
         on-accepted _ _ _ _ e (w .0),
         (
           on-accepted _ _ _ _ e (w .1 .0),
           (
-            on-accepted _ _ _ _ e (w .1 .1),
+            on-accepted _ _ _ _ e (w .1 .1 .0),
             (
-              on-accepted _ _ _ _ e (v .0 ∙ ap (λ (x : List ℕ). over x (s .args .source-ptr .now)) (h .pointers)),
-              on-accepted _ _ _ _ e (v .1 ∙ ap (λ (x : List ℕ). over x (s .args .source-indices .now)) (h .sources)),
+              on-accepted _ _ _ _ e (w .1 .1 .1 .0),
+              on-accepted _ _ _ _ e (w .1 .1 .1 .1),
             ),
           ),
         ),
@@ -189,14 +174,11 @@ prepare-local-numeric-plan-spec =
     (tie.spec
     check-inputs-requires
     enum-known-r
-    enum-told
-    count-requires
-    count-sources-requires
+    enum-known-counts
     check-room-requires
     enum-known-r-2
-    enum-told-2
+    enum-told
     write-requires
-    write-sources-requires
     stats-requires
     returns
     returns-2

@@ -11,6 +11,7 @@ use Rattle.side.specs.Side.{sideHolds}
 use Rattle.dual_topology.specs.Check.{topologyCheck}
 use Rattle.pattern.specs.Pattern.{regionCheck, patternRoom, patternCheck}
 use Rattle.pattern.specs.declared.PatternExtracted.{PatternExtracted}
+use Rattle.pattern.specs.declared.RegionKept.{RegionKept}
 use Rattle.pattern.proofs.Accepted.{Accepts, Fits, accepted-region, room-fits, room-is, stats-are}
 use Rattle.pattern.proofs.Counting.{kept-small}
 use Rattle.pattern.proofs.extract_local_submatrix_pattern.Statement.{statement}
@@ -50,7 +51,7 @@ module _ (c : tie.After-enum-told2) where
   s2 = c .before .before .before .before .before .before .before .before .before .before .before .before .before .before .before .before .before
 
   enough : room s2 ≡ Checked.Accepted
-  enough = sym (room-is (s2 .args .nrows) (inMask (s2 .args .words .now)) (pairs s2) (s2 .args .global-nodes .now) (s2 .args .row-ptr .now) (s2 .args .col-idx .now) _ (c .before .before .before .count .ensures)) ∙ sym (c .before .before .check-room .ensures) ∙ c .enum-told2 .given .1
+  enough = sym (room-is (s2 .args .nrows) (inMask (s2 .args .words .now)) (pairs s2) (s2 .args .global-nodes .now) (s2 .args .row-ptr .now) (s2 .args .col-idx .now) _ _ (ap (λ (k : RegionKept). k .members) (c .before .before .before .count .ensures)) (ap (λ (k : RegionKept). k .kept) (c .before .before .before .count .ensures))) ∙ sym (c .before .before .check-room .ensures) ∙ c .enum-told2 .given .1
 
   all : whole s2 ≡ Checked.Accepted
   unfolding patternCheck
@@ -102,7 +103,7 @@ returns-2 : tie.Need-returns-2
 unfolding patternCheck
 returns-2 c =
     let s = c .before .before .before .before .before .before .before .before .before .before .before .before .before .before .before .before .before .before in
-    let no-room = sym (room-is (s .args .nrows) (inMask (s .args .words .now)) (pairs s) (s .args .global-nodes .now) (s .args .row-ptr .now) (s .args .col-idx .now) _ (c .before .before .before .before .count .ensures)) ∙ sym (c .before .before .before .check-room .ensures) ∙ c .before .r2 .given .1 in
+    let no-room = sym (room-is (s .args .nrows) (inMask (s .args .words .now)) (pairs s) (s .args .global-nodes .now) (s .args .row-ptr .now) (s .args .col-idx .now) _ _ (ap (λ (k : RegionKept). k .members) (c .before .before .before .before .count .ensures)) (ap (λ (k : RegionKept). k .kept) (c .before .before .before .before .count .ensures))) ∙ sym (c .before .before .before .check-room .ensures) ∙ c .before .r2 .given .1 in
     let e : whole s ≡ Checked.Refused _ = sym (group-pass _ _ _ (ok (c .before .before .before .before .before)) (sym no-room)) in
     (on-refused _ _ _ PatternExtracted.Refused e, (kept _ _ _ _ e, (kept _ _ _ _ e, kept _ _ _ _ e)))
 

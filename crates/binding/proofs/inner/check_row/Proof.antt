@@ -1,5 +1,5 @@
 -- `binding::inner::check_row` meets its contract. Assumes nothing.
-use mathlib.Core.Path.{_≡_, refl, sym}
+use mathlib.Core.Path.{_≡_, refl}
 use mathlib.Core.Bool.{Bool, not, _&&_}
 use Prim.Native.Nat.{ℕ, _+_}
 use native.Mathlib.Omega.{arith}
@@ -9,7 +9,7 @@ use Rattle.mask.specs.Mask.{inMask}
 use Rattle.mask.proofs.Masks.{is-of}
 use Rattle.csr32.specs.Matrix.{stored}
 use Rattle.side.specs.Side.{sideHolds}
-use Rattle.binding.proofs.Rows.{row-entries, missing-is, left-mask, left-entry, extra-is, row-23, row-24, row-fine, row-agrees}
+use Rattle.binding.proofs.Rows.{row-entries, missing-is, left-mask, left-entry, extra-is, row-23, row-24, row-fine}
 use Rattle.binding.proofs.inner.check_row.Statement.{statement}
 use Rattle.binding.proofs.inner.check_row.Tie as tie
 
@@ -22,23 +22,17 @@ entries s = stored (s .args .row-ptr .now) (s .args .col-idx .now) (s .args .r)
 
 -- the answers of the two tests
 abbrev start : tie.After-drain → tie.Start
-start c = c .before .before .before .before .before .before .before .before .before .before .before .before .before .before .before .before .before .before .before .before .before
+start c = c .before .before .before .before .before .before .before .before .before .before .before .before .before .before .before .before .before .before .before
 
 missing : (c : tie.After-drain) → c .before .before .before .before .take-row .result ≡ anyBelow (start c .args .n) (λ i. inMask (start c .args .region .now) i && pairs (start c) i && not (entries (start c) i))
 missing c =
-    let s = c .before .before .before .before .before .before .before .before .before .before .before .before .before .before .before .before .before .before .before .before .before in
+    let s = c .before .before .before .before .before .before .before .before .before .before .before .before .before .before .before .before .before .before .before in
     missing-is (s .args .n) (s .args .row-ptr .now) (s .args .col-idx .now) (s .args .r) (pairs s) _ _ (s .pre .4) (c .before .before .before .before .before .before .before .before .add-entries .ensures) (inMask (s .args .region .now)) _ (c .before .before .before .before .take-row .ensures .0)
 
 extra : (c : tie.After-drain) → c .drain .result ≡ anyBelow (start c .args .n) (λ i. inMask (start c .args .region .now) i && entries (start c) i && not (pairs (start c) i))
 extra c =
-    let s = c .before .before .before .before .before .before .before .before .before .before .before .before .before .before .before .before .before .before .before .before .before in
+    let s = c .before .before .before .before .before .before .before .before .before .before .before .before .before .before .before .before .before .before .before in
     extra-is (s .args .n) (s .args .row-ptr .now) (s .args .col-idx .now) (s .args .r) (pairs s) _ _ (s .pre .4) (c .before .before .before .before .before .before .before .before .add-entries .ensures) _ (c .before .before .before .before .take-row .ensures .1) (inMask (s .args .region .now)) _ (c .drain .ensures .0)
-
-row-same-requires : tie.Need-row-same-requires
-row-same-requires c κs = (c .before .before .before .before .before .before .before .pre .0, c .before .before .before .before .before .before .before .pre .1, c .before .before .before .before .before .before .before .pre .3)
-
-returns : tie.Need-returns
-returns c = (sym (row-agrees _ _ _ _ (c .before .row-same .ensures (c .if1 .taken))), c .before .before .before .before .before .before .before .before .before .pre .4)
 
 mul-from : tie.Need-mul-from
 mul-from c = search needs
@@ -47,7 +41,7 @@ shared-slice-read-from : tie.Need-shared-slice-read-from
 shared-slice-read-from c = search needs
 
 cast-from : tie.Need-cast-from
-cast-from c = omega (arith, c .shared-slice-known7 .given (c .before .before .before .before .before .before .before .before .before .before .args .r))
+cast-from c = omega (arith, c .shared-slice-known7 .given (c .before .before .before .before .before .before .before .before .args .r))
 
 add-to : tie.Need-add-to
 add-to c = search needs
@@ -59,17 +53,17 @@ shared-slice-read-to : tie.Need-shared-slice-read-to
 shared-slice-read-to c = search needs
 
 cast-to : tie.Need-cast-to
-cast-to c = omega (arith, c .shared-slice-known8 .given (c .before .before .before .before .before .before .before .before .before .before .before .args .r + 1))
+cast-to c = omega (arith, c .shared-slice-known8 .given (c .before .before .before .before .before .before .before .before .before .args .r + 1))
 
 add-entries-requires : tie.Need-add-entries-requires
-add-entries-requires c κs = (row-entries _ _ _ (c .before .before .before .before .before .before .before .before .before .before .before .before .pre .1) (c .before .before .before .before .before .before .before .before .before .before .before .before .args .r) (c .before .before .before .before .before .before .before .before .before .before .before .before .pre .3), is-of _ _ _ (c .before .before .before .before .before .before .before .before .before .before .before .before .pre .2 .short) (c .before .before .before .before .before .before .before .before .before .before .before .before .pre .4))
+add-entries-requires c κs = (row-entries _ _ _ (c .before .before .before .before .before .before .before .before .before .before .pre .1) (c .before .before .before .before .before .before .before .before .before .before .args .r) (c .before .before .before .before .before .before .before .before .before .before .pre .3), is-of _ _ _ (c .before .before .before .before .before .before .before .before .before .before .pre .2 .short) (c .before .before .before .before .before .before .before .before .before .before .pre .4))
 
 take-row-requires : tie.Need-take-row-requires
-take-row-requires c κs = (c .before .before .before .before .before .before .before .before .before .before .before .before .before .before .before .before .pre .0, c .before .before .before .before .before .before .before .before .before .before .before .before .before .before .before .before .pre .2, c .before .before .before .before .before .before .before .before .before .before .before .before .before .before .before .before .pre .3, is-of _ _ _ (c .before .before .before .before .before .before .before .before .before .before .before .before .before .before .before .before .pre .2 .short) (c .before .before .before .add-entries .ensures))
+take-row-requires c κs = (c .before .before .before .before .before .before .before .before .before .before .before .before .before .before .pre .0, c .before .before .before .before .before .before .before .before .before .before .before .before .before .before .pre .2, c .before .before .before .before .before .before .before .before .before .before .before .before .before .before .pre .3, is-of _ _ _ (c .before .before .before .before .before .before .before .before .before .before .before .before .before .before .pre .2 .short) (c .before .before .before .add-entries .ensures))
 
 drain-requires : tie.Need-drain-requires
 drain-requires c κs =
-    let s = c .before .before .before .before .before .before .before .before .before .before .before .before .before .before .before .before .before .before .before .before in (
+    let s = c .before .before .before .before .before .before .before .before .before .before .before .before .before .before .before .before .before .before in (
       row-entries _ _ _ (s .pre .1) (s .args .r) (s .pre .3),
       s .pre .2,
       left-mask (s .args .n) (s .args .row-ptr .now) (s .args .col-idx .now) (s .args .r) (pairs s) _ _ (s .pre .4) (c .before .before .before .before .before .before .before .add-entries .ensures) _ (c .before .before .before .take-row .ensures .1) (s .pre .2 .short),
@@ -82,10 +76,10 @@ refused-requires c κs = search needs
 same-length : tie.Need-same-length
 same-length c = search needs
 
-returns-2 : tie.Need-returns-2
-returns-2 c =
+returns : tie.Need-returns
+returns c =
     let d = c .before .before .before .before in
-    (row-23 _ _ _ _ _ _ (missing d) (extra d) _ (c .before .if2 .taken) (c .refused .ensures), d .drain .ensures .1)
+    (row-23 _ _ _ _ _ _ (missing d) (extra d) _ (c .before .if1 .taken) (c .refused .ensures), d .drain .ensures .1)
 
 refused-requires-2 : tie.Need-refused-requires-2
 refused-requires-2 c κs = search needs
@@ -93,25 +87,23 @@ refused-requires-2 c κs = search needs
 same-length-2 : tie.Need-same-length-2
 same-length-2 c = search needs
 
-returns-3 : tie.Need-returns-3
-returns-3 c =
+returns-2 : tie.Need-returns-2
+returns-2 c =
     let d = c .before .before .before .before .before in
-    (row-24 _ _ _ _ _ _ (missing d) (extra d) _ (c .before .before .if2 .left) (c .before .if3 .taken) (c .refused2 .ensures), d .drain .ensures .1)
+    (row-24 _ _ _ _ _ _ (missing d) (extra d) _ (c .before .before .if1 .left) (c .before .if2 .taken) (c .refused2 .ensures), d .drain .ensures .1)
 
 same-length-3 : tie.Need-same-length-3
 same-length-3 c = search needs
 
-returns-4 : tie.Need-returns-4
-returns-4 c =
+returns-3 : tie.Need-returns-3
+returns-3 c =
     let d = c .before .before .before .before in
-    (row-fine _ _ _ _ _ _ (missing d) (extra d) _ (c .before .if2 .left) (c .if3 .left) refl, d .drain .ensures .1)
+    (row-fine _ _ _ _ _ _ (missing d) (extra d) _ (c .before .if1 .left) (c .if2 .left) refl, d .drain .ensures .1)
 
 pub check-row-spec : {M : Type 1} → statement M
 check-row-spec =
     tie.close
     (tie.spec
-    row-same-requires
-    returns
     mul-from
     shared-slice-read-from
     cast-from
@@ -124,9 +116,9 @@ check-row-spec =
     drain-requires
     refused-requires
     same-length
-    returns-2
+    returns
     refused-requires-2
     same-length-2
-    returns-3
+    returns-2
     same-length-3
-    returns-4)
+    returns-3)

@@ -4,22 +4,22 @@ use native.Mathlib.Omega.{arith}
 use lib.ListN.{length}
 use borrow.Author.Needs.{needs}
 use Rattle.binding.specs.Steps.{RunOf}
-use Rattle.binding.proofs.Runs.{upTo, run-start, run-turn}
+use Rattle.binding.proofs.Runs.{upTo, run-start, pairs-few, sources-few, run-turn}
 use Rattle.binding.proofs.inner.take_word.Statement.{statement}
 use Rattle.binding.proofs.inner.take_word.Tie as tie
 
 abbrev Inv-loop : tie.InvT-loop
-Inv-loop col-idx from to word bits₀ e₀ bits e = RunOf col-idx from to word (upTo col-idx from to word bits e)
+Inv-loop col-idx from to word inside bits₀ pairs₀ sources₀ e₀ bits pairs sources e = RunOf col-idx from to word inside (upTo col-idx from to word inside bits e pairs sources)
 
 abbrev μ-loop : tie.MeasureT-loop
-μ-loop col-idx from to word bits₀ e₀ bits e = to - e
+μ-loop col-idx from to word inside bits₀ pairs₀ sources₀ e₀ bits pairs sources e = to - e
 
 -- entry e is stored
 in-cols : (c : tie.In-loop Inv-loop μ-loop) → c .before .loop .e < length (c .before .before .args .col-idx .now)
 in-cols c = omega (arith, c .loop-test .taken, c .before .before .pre .1)
 
 loop-holds : tie.Need-loop-holds Inv-loop μ-loop
-loop-holds c = run-start (c .args .col-idx .now) (c .args .from) (c .args .to) (c .args .word) (c .pre .0)
+loop-holds c = run-start (c .args .col-idx .now) (c .args .from) (c .args .to) (c .args .word) (c .args .inside) (c .pre .0)
 
 mul-c : tie.Need-mul-c Inv-loop μ-loop
 mul-c c = omega (arith, in-cols c, c .before .before .pre .2)
@@ -32,6 +32,24 @@ cast-c c = omega (arith, c .shared-slice-known .given (c .before .before .loop .
 
 returns : tie.Need-returns Inv-loop μ-loop
 returns c = c .before .before .before .loop .inv
+
+shr-sources : tie.Need-shr-sources Inv-loop μ-loop
+shr-sources c = search needs
+
+add-sources : tie.Need-add-sources Inv-loop μ-loop
+add-sources c =
+    let s = c .before .before .before .before in
+    let l = c .before .before .before .loop in
+    omega (arith, sources-few (s .args .col-idx .now) (s .args .from) (s .args .to) (s .args .word) (s .args .inside) (l .bits) (l .e) (l .pairs) (l .sources) (l .inv), in-cols (c .before .before), s .pre .2)
+
+shr-pairs : tie.Need-shr-pairs Inv-loop μ-loop
+shr-pairs c = search needs
+
+add-pairs : tie.Need-add-pairs Inv-loop μ-loop
+add-pairs c =
+    let s = c .before .before .before .before in
+    let l = c .before .before .before .loop in
+    omega (arith, pairs-few (s .args .col-idx .now) (s .args .from) (s .args .to) (s .args .word) (s .args .inside) (l .bits) (l .e) (l .pairs) (l .sources) (l .inv))
 
 shl-bits : tie.Need-shl-bits Inv-loop μ-loop
 shl-bits c = search needs
@@ -46,7 +64,7 @@ loop-again : tie.Need-loop-again Inv-loop μ-loop
 loop-again c =
     let s = c .before .before .before .before in
     let l = c .before .before .before .loop in
-    run-turn (s .args .col-idx .now) (s .args .from) (s .args .to) (s .args .word) (s .pre .1) (l .bits) (l .e) (l .inv) (c .before .before .loop-test .taken) (c .if1 .left)
+    run-turn (s .args .col-idx .now) (s .args .from) (s .args .to) (s .args .word) (s .args .inside) (l .bits) (l .e) (l .pairs) (l .sources) (l .inv) (s .pre .1) (c .before .before .loop-test .taken) (c .if1 .left)
 
 returns-2 : tie.Need-returns-2 Inv-loop μ-loop
 returns-2 c = c .before .loop .inv
@@ -62,6 +80,10 @@ take-word-spec =
     shared-slice-read-c
     cast-c
     returns
+    shr-sources
+    add-sources
+    shr-pairs
+    add-pairs
     shl-bits
     add-e
     loop-less

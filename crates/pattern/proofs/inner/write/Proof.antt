@@ -65,7 +65,7 @@ mul-global-nodes : tie.Need-mul-global-nodes Inv-loop μ-loop
 mul-global-nodes c = omega (arith, member-left c, c .before .before .before .before .before .before .before .before .before .before .before .before .before .pre .2)
 
 slice-write-global-nodes : tie.Need-slice-write-global-nodes Inv-loop μ-loop
-slice-write-global-nodes c = omega (arith, member-left c, c .before .before .before .before .before .before .before .before .before .before .before .before .before .pre .2, c .before .loop .inv .nodes-long)
+slice-write-global-nodes c = omega (arith, member-left c, c .before .before .before .before .before .before .before .before .before .before .before .before .before .pre .2, c .before .loop .inv .listed .long)
 
 slice-aggregate-write-row : tie.Need-slice-aggregate-write-row Inv-loop μ-loop
 slice-aggregate-write-row c = search needs
@@ -106,7 +106,7 @@ loop-again c =
     write-turn (s .args .n) (sideHolds (s .args .row-word-ptr .now) (s .args .word-indices .now) (s .args .masks .now)) (s .args .region .now) (s .args .global-nodes .now) (set (s .args .row-ptr .now) 0 0) (s .args .col-idx .now) (l .global-nodes) (l .row-ptr) (l .col-idx) (l .next) (l .k) (l .r) (l .inv) (c .before .before .before .before .before .before .loop-test .taken) (s .pre .2) (omega (arith, s .pre .3, length-set (s .args .row-ptr .now) 0 0)) (s .pre .4) _ _ _ (next-one c) (c .before .before .before .write-row .ensures .0) (c .before .before .before .write-row .ensures .1)
 
 same-length : tie.Need-same-length Inv-loop μ-loop
-same-length c = c .before .loop .inv .nodes-long
+same-length c = c .before .loop .inv .listed .long
 
 same-length-2 : tie.Need-same-length-2 Inv-loop μ-loop
 same-length-2 c = c .before .loop .inv .ptr-long ∙ length-set (c .before .before .before .before .before .before .before .before .before .before .before .before .before .args .row-ptr .now) 0 0

@@ -33,7 +33,7 @@ write-plan-requires : tie.Need-write-plan-requires Inv-loop μ-loop
 write-plan-requires c κs =
     let s = c .before .before .before .before .before .before .before .before .before .before .before .before .before .before .before .before .before .before .before in
     let same = c .before .before .before .before .before .before .before .loop .inv in
-    held-same (s .args .n) (s .args .row-word-ptr .now) (s .args .word-indices .now) (s .args .masks .now) (s .args .row-ptr .now) (s .args .col-idx .now) (s .args .region .now) (s .args .nodes .now) (s .args .local-ptr .now) (s .args .local-cols .now) (s .args .source-ptr .now) (s .args .sources .now) _ _ _ _ _ (same .members) (same .pointers) (same .columns) (same .starts) (same .entries) (s .pre .0)
+    (held-same (s .args .n) (s .args .row-word-ptr .now) (s .args .word-indices .now) (s .args .masks .now) (s .args .row-ptr .now) (s .args .col-idx .now) (s .args .region .now) (s .args .nodes .now) (s .args .local-ptr .now) (s .args .local-cols .now) (s .args .source-ptr .now) (s .args .sources .now) _ _ _ _ _ (same .members) (same .pointers) (same .columns) (same .starts) (same .entries) (s .pre .0), c .before .before .before .before .before .settle .ensures)
 
 add-t : tie.Need-add-t Inv-loop μ-loop
 add-t c = record { fits = omega (arith, c .before .before .before .before .before .before .before .before .before .before .before .before .before .before .before .before .before .loop-test .taken, c .before .before .before .before .before .before .before .before .before .before .before .before .before .before .before .before .before .before .before .before .before .before .before .before .before .before .before .before .before .before .fits .times) }
