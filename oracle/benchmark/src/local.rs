@@ -14,9 +14,9 @@ use crate::sides::Topology;
 use crate::topology::matrices::{Order, banded, canonical, long_rows};
 use port::Lent;
 
-/// At most so much of the Rust's time, one call at a time. The port's work
-/// without its checks is the mean of calls that follow one another; what the
-/// Rust takes where its calls do so stands under it.
+/// At most so much of the Rust's time. The port's work without its checks is
+/// the mean of calls that follow one another, so it is judged beside such calls
+/// of the Rust; single ones, with cold caches, stand there for comparison.
 const PATTERN: f64 = 1.0;
 const PLAN: f64 = 0.3;
 const GATHER: f64 = 1.0;
@@ -138,6 +138,7 @@ impl<'a> Local<'a> {
         if let Some(inner) = port::inner_pattern(port, region, lent) {
             let inner = table.row_within(PATTERN, "  without checks", input, inner, original());
             table.in_a_row(
+                PATTERN,
                 inner,
                 warm(|| extract_local_submatrix_pattern(rust, region)),
             );
@@ -162,6 +163,7 @@ impl<'a> Local<'a> {
         if let Some(inner) = port::inner_plan(port, matrix, region, lent) {
             let inner = table.row_within(PLAN, "  without checks", input, inner, original());
             table.in_a_row(
+                PLAN,
                 inner,
                 warm(|| prepare_local_numeric_plan(rust, matrix, region)),
             );
@@ -182,7 +184,7 @@ impl<'a> Local<'a> {
         let whole = table.row_within(GATHER, "gather_values", input, call, original());
         if let Some(inner) = port::inner_gather(values, lent) {
             let inner = table.row_within(GATHER, "  without checks", input, inner, original());
-            table.in_a_row(inner, warm(|| plan.gather_values(values)));
+            table.in_a_row(GATHER, inner, warm(|| plan.gather_values(values)));
             table.checks(whole, inner);
         }
     }

@@ -164,13 +164,14 @@ impl Table {
     }
 
     /// Prints under a row of work without checks the Rust's time where its calls
-    /// follow one another, as the port's do there, and the ratio to that.
-    pub fn in_a_row(&mut self, port: f64, mut rust: Sample) {
+    /// follow one another, as the port's do there: by this the target is judged.
+    pub fn in_a_row(&mut self, target: f64, port: f64, mut rust: Sample) {
         let rust = median((0..FEW).map(|_| rust()).collect());
+        let ratio = port / rust;
         println!(
-            "{:<28} the Rust's calls in a row {rust:.3}, ratio {:.2}",
+            "{:<28} the Rust's calls in a row {rust:.3}, ratio {ratio:.2}  at most {target:.1}: {}",
             "  warm",
-            port / rust
+            if ratio <= target { "met" } else { "over" }
         );
     }
 
