@@ -5,10 +5,10 @@ use mathlib.Core.Logic.{_⊎_, inl, inr}
 use mathlib.Core.Bool.{Bool, true, false, not, cond, _&&_, _||_}
 use mathlib.Core.List.{List}
 use Prim.Native.Nat.{ℕ, zero, suc, _+_, _-_, _*_, _/_, _%_, _^_, _≤_, _<_}
-use native.Mathlib.Nat.{mod-lt, zero-lt-suc, add-zero}
+use native.Mathlib.Nat.{mod-lt, zero-lt-suc, add-zero, zero-add}
 use native.Mathlib.Omega.{arith}
 use borrow.Author.Tests.{eq-eqb, ne-eqb}
-use lib.Bits.{bitAnd, bitOr}
+use lib.Bits.{bitAnd, bitOr, bitXor, or-add-and, xor-add-and, and-le-l, and-le-r}
 use lib.Dec.{T, eqb}
 use lib.ListN.{length, getD}
 use lib.Seq.{slice}
@@ -20,12 +20,14 @@ use Rattle.base.proofs.Sets.{sum-cong, sum-add, sum-none, sum-place, count-cong
 use Rattle.word.specs.Bits.{bitAt}
 use Rattle.word.proofs.Bits.{one-shl, zero-bit, bit-and, bit-or, bit-not, bit-pow}
 use Rattle.word.proofs.Words.{bit-word, word-lt, word-ext, word-none, word-add-same}
-use Rattle.mask.specs.Mask.{inMask}
-use Rattle.side.specs.Side.{rowHolds}
-use Rattle.side.specs.Check.{Rising}
+use Rattle.mask.specs.Mask.{inMask, IsMask}
+use Rattle.csr32.specs.Matrix.{stored}
+use Rattle.side.specs.Side.{rowHolds, sideHolds}
+use Rattle.side.specs.Check.{Rising, IsSide}
 use Rattle.side.proofs.Holding.{holds-none, holds-next}
-use Rattle.pattern.proofs.Rows.{keptIn, kept-none, kept-next, kept-le}
-use Rattle.binding.specs.Steps.{RunOf}
+use Rattle.pattern.specs.Pattern.{inside}
+use Rattle.pattern.proofs.Rows.{keptIn, kept-none, kept-next, kept-le, row-kept}
+use Rattle.binding.specs.Steps.{RunOf, rowSources}
 use Rattle.binding.specs.declared.Run.{Run}
 use Rattle.binding.proofs.Sources.{counted, count-start, count-next, count-more}
 
@@ -168,6 +170,28 @@ module _ (cols : List ℕ) (from to word inside : ℕ) where
         at-turn j a (inl s) b = ap (λ (x : ℕ). getD cols x 0 / 64) s ∙ d
         at-turn j a (inr s) b = inv .here j a (omega (arith, s))
 
+  -- one entry alone
+  pub run-single : to ≤ length cols → from < to → getD cols from 0 / 64 ≡ word
+      → RunOf cols from to word inside (upTo ((1 * 2 ^ (getD cols from 0 % 64)) % 2 ^ 64) (from + 1) (inside / 2 ^ (getD cols from 0 % 64) % 2) (inside / 2 ^ (getD cols from 0 % 64) % 2))
+  run-single hc l d =
+      subst (λ (x : ℕ). RunOf cols from to word inside (upTo ((1 * 2 ^ b) % 2 ^ 64) (from + 1) x (inside / 2 ^ b % 2))) all
+      (subst (λ (x : ℕ). RunOf cols from to word inside (upTo ((1 * 2 ^ b) % 2 ^ 64) (from + 1) (0 + bitAnd inside (2 ^ 64 - 1 - 0) / 2 ^ b % 2) x)) (zero-add (inside / 2 ^ b % 2))
+      (run-turn 0 from 0 0 (run-start (omega arith)) hc l d))
+    where
+      b : ℕ
+      b = getD cols from 0 % 64
+
+      whole : (t : Bool) → (t && true) ≡ t
+      whole true = refl
+      whole false = refl
+
+      -- no bit was taken before it
+      all : 0 + bitAnd inside (2 ^ 64 - 1 - 0) / 2 ^ b % 2 ≡ inside / 2 ^ b % 2
+      all =
+          zero-add (bitAnd inside (2 ^ 64 - 1 - 0) / 2 ^ b % 2) ∙ bit-down (bitAnd inside (2 ^ 64 - 1 - 0)) b
+          ∙ ap one-if (bit-and inside (2 ^ 64 - 1 - 0) b ∙ ap (λ (t : Bool). bitAt inside b && t) (bit-not 64 0 b (omega arith) (omega arith) ∙ ap not (zero-bit b)) ∙ whole (bitAt inside b))
+          ∙ sym (bit-down inside b)
+
 -- ---- the row's words against its runs
 
 module _ (idx masks cols : List ℕ) (from first : ℕ) where
@@ -231,6 +255,12 @@ module _ (idx masks cols : List ℕ) (from first : ℕ) where
 
 -- ---- what those words and entries hold inside the region
 
+alike-of : (a b : ℕ) → bitXor a b ≡ 0 → a ≡ b
+alike-of a b z = omega (arith, xor-add-and a b, and-le-l a b, and-le-r a b)
+
+none-of : (a b : ℕ) → bitOr a b ≡ 0 → (a ≡ 0) × (b ≡ 0)
+none-of a b z = (omega (arith, or-add-and a b, and-le-l a b, and-le-r a b), omega (arith, or-add-and a b, and-le-l a b, and-le-r a b))
+
 module _ (idx masks region cols : List ℕ) (from first : ℕ) where
   -- entry i has its column inside
   abbrev held : ℕ → Bool
@@ -276,3 +306,68 @@ module _ (idx masks region cols : List ℕ) (from first : ℕ) where
           by-pairs = ap₂ _+_ (inv .by-pairs) (o .pairs ∙ ap (λ (x : ℕ). countBelow 64 (bitAt (bitAnd x (getD region (getD idx k 0) 0)))) eq) ∙ sym (kept-next idx masks region from k (inv .match .since));
           by-sources = count-more held first e (run .end) sources (run .sources) (inv .match .after) (o .since) (inv .by-sources) run-sources;
         }
+
+  -- the words and the entries before e, one each; what differs is collected in `other`
+  pub record Singly (to end k e other sources : ℕ) : Type 0 where
+    pub after : first ≤ e
+    pub within : e ≤ end
+    pub beside : k + first ≡ from + e
+    pub by-sources : sources ≡ counted held first e
+    pub alike : other ≡ 0 → Following to end k e sources sources
+
+  pub single-start : (to end : ℕ) → first ≤ end → Matching idx masks cols from first to end from first → Singly to end from first 0 0
+  single-start to end h m =
+      record { after = omega arith; within = h; beside = omega arith; by-sources = count-start held first; alike = λ z. follow-start to end m }
+
+  module _ (to end k e other sources : ℕ) (inv : Singly to end k e other sources) (long : to + first ≡ from + end) (l : e < end) where
+    abbrev column : ℕ
+    column = getD cols e 0
+
+    -- entry e is inside, as a number
+    abbrev one : ℕ
+    one = getD region (column / 64) 0 / 2 ^ (column % 64) % 2
+
+    abbrev differs : ℕ
+    differs = bitOr (bitXor (getD idx k 0) (column / 64)) (bitXor (getD masks k 0) ((1 * 2 ^ (column % 64)) % 2 ^ 64))
+
+    pub single-below : k < to
+    single-below = omega (arith, inv .beside)
+
+    pub single-few : sources ≤ e
+    single-few = omega (arith, inv .by-sources, count-le (e - first) (λ j. held (first + j)))
+
+    single-counts : sources + one ≡ counted held first (e + 1)
+    unfolding inMask
+    single-counts = ap (λ (x : ℕ). sources + x) (bit-down (getD region (column / 64) 0) (column % 64)) ∙ count-next held first e sources (held e) (inv .after) refl (inv .by-sources)
+
+    pub single-turn : to ≤ length idx → to ≤ length masks → Rising idx from to → end ≤ length cols → Singly to end (k + 1) (e + 1) (bitOr other differs) (sources + one)
+    single-turn hi hm ris hc =
+        record {
+          after = omega (arith, inv .after);
+          within = omega arith;
+          beside = omega (arith, inv .beside);
+          by-sources = single-counts;
+          alike = λ z. turn z;
+        }
+      where
+        turn : bitOr other differs ≡ 0 → Following to end (k + 1) (e + 1) (sources + one) (sources + one)
+        turn z =
+            let o = none-of other differs z in
+            let d = none-of (bitXor (getD idx k 0) (column / 64)) (bitXor (getD masks k 0) ((1 * 2 ^ (column % 64)) % 2 ^ 64)) (o .1) in
+            let w : getD idx k 0 ≡ column / 64 = alike-of _ _ (d .0) in
+            let m : getD masks k 0 ≡ (1 * 2 ^ (column % 64)) % 2 ^ 64 = alike-of _ _ (d .1) in
+            let run = subst (λ (v : ℕ). RunOf cols e end v (getD region v 0) (upTo cols e end v (getD region v 0) ((1 * 2 ^ (column % 64)) % 2 ^ 64) (e + 1) one one)) (sym w) (run-single cols e end (column / 64) (getD region (column / 64) 0) hc l refl) in
+            follow-turn to end k e sources sources (inv .alike (o .0)) _ run (sym m) (same-turn idx masks cols from first to end k e hi hm ris hc (inv .alike (o .0) .match) single-below _ _ run (sym m))
+
+-- ---- a row's words and entries, all followed
+pub follow-last : (n : ℕ) (wordPtr idx masks ptr cols region : List ℕ) (r : ℕ) → IsSide n n wordPtr idx masks → IsMask n region → r < n
+    → (k e pairs sources : ℕ) → getD wordPtr (r + 1) 0 ≤ k → e ≡ getD ptr (r + 1) 0
+    → Following idx masks region cols (getD wordPtr r 0) (getD ptr r 0) (getD wordPtr (r + 1) 0) (getD ptr (r + 1) 0) k e pairs sources
+    → ((c : ℕ) → c < n → sideHolds wordPtr idx masks r c ≡ stored ptr cols r c) × (pairs ≡ countBelow n (inside (inMask region) (sideHolds wordPtr idx masks) r)) × (sources ≡ rowSources (inMask region) ptr cols r)
+unfolding stored
+follow-last n wordPtr idx masks ptr cols region r side mask h k e pairs sources l q inv =
+    let last : k ≡ getD wordPtr (r + 1) 0 = omega (arith, inv .match .within) in (
+      λ i v. same-end idx masks cols _ _ _ _ k e (inv .match) l q i,
+      inv .by-pairs ∙ ap (keptIn idx masks region (getD wordPtr r 0)) last ∙ sym (row-kept n wordPtr idx masks region side mask r h),
+      inv .by-sources ∙ ap (counted (λ i. inMask region (getD cols i 0)) (getD ptr r 0)) q,
+    )

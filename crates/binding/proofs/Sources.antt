@@ -128,18 +128,22 @@ module _ (n : ℕ) (region wordPtr idx masks ptr cols : List ℕ) where
 
   module _ (seen : List ℕ) (m a b r : ℕ) (inv : Settling seen m a b r) (l : r < n) (x : RowBinding)
       (is : x ≡ after (rowFaults n p (s r) (entries r)) (RowBinding.Bound (rowCounts n p s ptr cols r)) RowBinding.Refused) where
+    pub stop-check : (f : Refusal) → x ≡ RowBinding.Refused f → bindingCheck n p s entries ≡ Refused f
+    stop-check f told = sym (check-stop n region s entries seen r (inv .checked) l _ f refl (row-stops _ (rowCounts n p s ptr cols r) f (sym told ∙ is)))
+
     pub settle-stop : (f : Refusal) → x ≡ RowBinding.Refused f → Binding.Refused f ≡ answer
-    settle-stop f told =
-        on-refused (bindingCheck n p s entries) f (Binding.Bound (countsOf n p s ptr cols)) Binding.Refused
-        (sym (check-stop n region s entries seen r (inv .checked) l _ f refl (row-stops _ (rowCounts n p s ptr cols r) f (sym told ∙ is))))
+    settle-stop f told = on-refused (bindingCheck n p s entries) f (Binding.Bound (countsOf n p s ptr cols)) Binding.Refused (stop-check f told)
 
     module _ (row : RowCounts) (told : x ≡ RowBinding.Bound row) where
       fine : (rowFaults n p (s r) (entries r) ≡ Accepted) × (row ≡ rowCounts n p s ptr cols r)
       fine = row-passes (rowFaults n p (s r) (entries r)) (rowCounts n p s ptr cols r) row (sym told ∙ is)
 
+      pub row-pairs : row .pairs ≡ pairs r
+      row-pairs = ap (λ (t : RowCounts). t .pairs) (fine .1)
+
       -- no more pairs than the topology has, no more sources than the matrix has entries
       pub pairs-fit : IsSide n n wordPtr idx masks → a + row .pairs ≤ entryLimit
-      pairs-fit side = let f : row .pairs ≡ pairs r = ap (λ (t : RowCounts). t .pairs) (fine .1) in omega (arith, inv .by-pairs, f, sum-room n region r pairs l, kept-within n wordPtr idx masks side p)
+      pairs-fit side = omega (arith, inv .by-pairs, row-pairs, sum-room n region r pairs l, kept-within n wordPtr idx masks side p)
 
       pub sources-fit : IsMatrix n n ptr cols → b + row .sources ≤ entryLimit
       sources-fit matrix =
@@ -151,6 +155,6 @@ module _ (n : ℕ) (region wordPtr idx masks ptr cols : List ℕ) where
           record {
             checked = check-turn n region s entries seen r (inv .checked) l _ refl (fine .0) seen′ r′ next z;
             members = ap (λ (k : ℕ). k + 1) (inv .members) ∙ count-turn n region r r′ (inv .checked .member l) next;
-            by-pairs = ap₂ _+_ (inv .by-pairs) (ap (λ (t : RowCounts). t .pairs) (fine .1)) ∙ sum-turn n region r r′ pairs (inv .checked .member l) next;
+            by-pairs = ap₂ _+_ (inv .by-pairs) row-pairs ∙ sum-turn n region r r′ pairs (inv .checked .member l) next;
             by-sources = ap₂ _+_ (inv .by-sources) (ap (λ (t : RowCounts). t .sources) (fine .1)) ∙ sum-turn n region r r′ sources (inv .checked .member l) next;
           }

@@ -1,17 +1,20 @@
 -- What the steps of the check hand on to one another; no caller of the API needs it.
 use mathlib.Core.Path.{_≡_}
-use mathlib.Core.Bool.{Bool}
+use mathlib.Core.Bool.{Bool, true, _&&_}
 use mathlib.Core.List.{List}
 use Prim.Native.Nat.{ℕ, _+_, _-_, _/_, _%_, _≤_, _<_}
 use lib.Bits.{bitAnd}
+use lib.Dec.{ltb}
 use lib.ListN.{length, getD}
 use lib.Seq.{slice}
 use Rattle.base.specs.Checks.{entryLimit}
 use Rattle.base.specs.Lists.{isIn}
 use Rattle.base.specs.Sets.{countBelow, sumOver}
 use Rattle.word.specs.Bits.{bitAt, wordOf}
+use Rattle.csr32.specs.Matrix.{stored}
 use Rattle.pattern.specs.Pattern.{inside, pairsInside}
 use Rattle.binding.specs.declared.Run.{Run}
+use Rattle.binding.specs.declared.RowRun.{RowRun}
 use Rattle.binding.specs.declared.RowCounts.{RowCounts}
 use Rattle.binding.specs.declared.Counts.{Counts}
 
@@ -42,6 +45,14 @@ sourcesInside n p ptr cols = sumOver n p (λ r. rowSources p ptr cols r)
 -- row r's pairs and entries inside
 abbrev pub rowCounts : ℕ → (ℕ → Bool) → (ℕ → ℕ → Bool) → List ℕ → List ℕ → ℕ → RowCounts
 rowCounts n p s ptr cols r = record { pairs = countBelow n (inside p s r); sources = rowSources p ptr cols r }
+
+-- what is said of a row whose words are its entries: its pairs are they, and what is inside is counted
+abbrev pub Followed : ℕ → (ℕ → Bool) → (ℕ → ℕ → Bool) → List ℕ → List ℕ → ℕ → RowRun → Type 0
+Followed n p s ptr cols r k = k .same ≡ true → ((c : ℕ) → c < n → s r c ≡ stored ptr cols r c) × (k .pairs ≡ countBelow n (inside p s r)) × (k .sources ≡ rowSources p ptr cols r)
+
+-- member r's row has a pair inside
+abbrev pub hasPair : ℕ → (ℕ → Bool) → (ℕ → ℕ → Bool) → ℕ → Bool
+hasPair n p s r = p r && ltb 0 (countBelow n (inside p s r))
 
 -- all members', and how many members there are
 abbrev pub countsOf : ℕ → (ℕ → Bool) → (ℕ → ℕ → Bool) → List ℕ → List ℕ → Counts

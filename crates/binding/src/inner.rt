@@ -24,7 +24,7 @@ ghost use Rattle.side.specs.Side.{sideHolds};
 ghost use Rattle.side.specs.Check.{IsSide};
 ghost use Rattle.pattern.specs.Pattern.{inside};
 ghost use Rattle.binding.specs.Binding.{rowFaults, bindingCheck};
-ghost use Rattle.binding.specs.Steps.{Entries, RunOf, rowSources, rowCounts, countsOf};
+ghost use Rattle.binding.specs.Steps.{Entries, RunOf, Followed, hasPair, rowCounts, countsOf};
 
 // The entries from `from` on that lie in the word, up to the first that does not; `inside` is the region's word. A column is a pair at its first
 // entry, where its bit is not yet taken. No branch tells a member and no bits are counted at the end: the members of a region follow no order, and
@@ -74,7 +74,7 @@ fn follow_row(
     r: usize,
 ) -> RowRun
     requires { ⌜ IsSide n n (now «row_word_ptr») (now «word_indices») (now masks) × IsMatrix n n (now «row_ptr») (now «col_idx») × IsMask n (now region) × (r < n) ⌝ }
-    ensures { λ k. ⌜ (k .same ≡ true → ((c : ℕ) → c < n → sideHolds (now («row_word_ptr» .entry)) (now («word_indices» .entry)) (now (masks .entry)) r c ≡ stored (now («row_ptr» .entry)) (now («col_idx» .entry)) r c) × (k .pairs ≡ countBelow n (inside (inMask (now (region .entry))) (sideHolds (now («row_word_ptr» .entry)) (now («word_indices» .entry)) (now (masks .entry))) r)) × (k .sources ≡ rowSources (inMask (now (region .entry))) (now («row_ptr» .entry)) (now («col_idx» .entry)) r)) ⌝ }
+    ensures { λ k. ⌜ Followed n (inMask (now (region .entry))) (sideHolds (now («row_word_ptr» .entry)) (now («word_indices» .entry)) (now (masks .entry))) (now («row_ptr» .entry)) (now («col_idx» .entry)) r k ⌝ }
 {
     let to = row_word_ptr[r + 1] as usize;
     let end = row_ptr[r + 1] as usize;
@@ -102,6 +102,83 @@ fn follow_row(
         pairs,
         sources,
     }
+}
+
+// The same where row r has as many words as entries: each word is one entry then, or there is a no. What differs is collected and looked at once,
+// in the end, so that no entry waits for the one before it.
+fn follow_single(
+    n: usize,
+    row_word_ptr: &[u32],
+    word_indices: &[u32],
+    masks: &[u64],
+    row_ptr: &[u32],
+    col_idx: &[u32],
+    region: &[u64],
+    r: usize,
+) -> RowRun
+    requires { ⌜ IsSide n n (now «row_word_ptr») (now «word_indices») (now masks) × IsMatrix n n (now «row_ptr») (now «col_idx») × IsMask n (now region) × (r < n) × (getD (now «row_word_ptr») (r + 1) 0 - getD (now «row_word_ptr») r 0 ≡ getD (now «row_ptr») (r + 1) 0 - getD (now «row_ptr») r 0) ⌝ }
+    ensures { λ k. ⌜ Followed n (inMask (now (region .entry))) (sideHolds (now («row_word_ptr» .entry)) (now («word_indices» .entry)) (now (masks .entry))) (now («row_ptr» .entry)) (now («col_idx» .entry)) r k ⌝ }
+{
+    let end = row_ptr[r + 1] as usize;
+    let mut other: u64 = 0;
+    let mut sources: usize = 0;
+    let mut k = row_word_ptr[r] as usize;
+    let mut e = row_ptr[r] as usize;
+    while e < end {
+        let c = col_idx[e] as usize;
+        let w = c / AbtmTopologyWord::BITS;
+        let b = c % AbtmTopologyWord::BITS;
+        let index = word_indices[k] as usize;
+        other |= (index ^ w) as u64 | (masks[k] ^ (1u64 << b));
+        sources += ((region[w] >> b) % 2) as usize;
+        e += 1;
+        k += 1;
+    }
+    RowRun {
+        same: other == 0,
+        pairs: sources,
+        sources,
+    }
+}
+
+// Row r in either way.
+fn follow(
+    n: usize,
+    row_word_ptr: &[u32],
+    word_indices: &[u32],
+    masks: &[u64],
+    row_ptr: &[u32],
+    col_idx: &[u32],
+    region: &[u64],
+    r: usize,
+) -> RowRun
+    requires { ⌜ IsSide n n (now «row_word_ptr») (now «word_indices») (now masks) × IsMatrix n n (now «row_ptr») (now «col_idx») × IsMask n (now region) × (r < n) ⌝ }
+    ensures { λ k. ⌜ Followed n (inMask (now (region .entry))) (sideHolds (now («row_word_ptr» .entry)) (now («word_indices» .entry)) (now (masks .entry))) (now («row_ptr» .entry)) (now («col_idx» .entry)) r k ⌝ }
+{
+    let words = row_word_ptr[r + 1] - row_word_ptr[r];
+    let entries = row_ptr[r + 1] - row_ptr[r];
+    if words == entries {
+        return follow_single(
+            n,
+            row_word_ptr,
+            word_indices,
+            masks,
+            row_ptr,
+            col_idx,
+            region,
+            r,
+        );
+    }
+    follow_row(
+        n,
+        row_word_ptr,
+        word_indices,
+        masks,
+        row_ptr,
+        col_idx,
+        region,
+        r,
+    )
 }
 
 // The columns of the entries from..to join the mask.
@@ -231,7 +308,7 @@ fn settle_row(
     ensures { λ b. ⌜ b ≡ after (rowFaults n (inMask (now (region .entry))) (sideHolds (now («row_word_ptr» .entry)) (now («word_indices» .entry)) (now (masks .entry)) r) (stored (now («row_ptr» .entry)) (now («col_idx» .entry)) r)) (RowBinding.Bound (rowCounts n (inMask (now (region .entry))) (sideHolds (now («row_word_ptr» .entry)) (now («word_indices» .entry)) (now (masks .entry))) (now («row_ptr» .entry)) (now («col_idx» .entry)) r)) RowBinding.Refused ⌝ }
     ensures { λ _. ⌜ now (seen .exit) ≡ maskWords n (λ i. false) ⌝ }
 {
-    let run = follow_row(
+    let run = follow(
         n,
         row_word_ptr,
         word_indices,
@@ -271,7 +348,7 @@ fn settle_row(
     }
 }
 
-// The members' rows in order, and what they hold.
+// The members' rows in order, what they hold, and which of them have a pair.
 fn settle_members(
     n: usize,
     row_word_ptr: &[u32],
@@ -280,10 +357,12 @@ fn settle_members(
     row_ptr: &[u32],
     col_idx: &[u32],
     region: &[u64],
+    paired: &mut [u64],
     seen: &mut [u64],
 ) -> Binding
-    requires { ⌜ IsSide n n (now «row_word_ptr») (now «word_indices») (now masks) × IsMatrix n n (now «row_ptr») (now «col_idx») × IsMask n (now region) × (now seen ≡ maskWords n (λ i. false)) ⌝ }
+    requires { ⌜ IsSide n n (now «row_word_ptr») (now «word_indices») (now masks) × IsMatrix n n (now «row_ptr») (now «col_idx») × IsMask n (now region) × (now paired ≡ maskWords n (λ i. false)) × (now seen ≡ maskWords n (λ i. false)) ⌝ }
     ensures { λ b. ⌜ b ≡ after (bindingCheck n (inMask (now (region .entry))) (sideHolds (now («row_word_ptr» .entry)) (now («word_indices» .entry)) (now (masks .entry))) (stored (now («row_ptr» .entry)) (now («col_idx» .entry)))) (Binding.Bound (countsOf n (inMask (now (region .entry))) (sideHolds (now («row_word_ptr» .entry)) (now («word_indices» .entry)) (now (masks .entry))) (now («row_ptr» .entry)) (now («col_idx» .entry)))) Binding.Refused ⌝ }
+    ensures marks { λ _. ⌜ (bindingCheck n (inMask (now (region .entry))) (sideHolds (now («row_word_ptr» .entry)) (now («word_indices» .entry)) (now (masks .entry))) (stored (now («row_ptr» .entry)) (now («col_idx» .entry))) ≡ Checked.Accepted → now (paired .exit) ≡ maskWords n (hasPair n (inMask (now (region .entry))) (sideHolds (now («row_word_ptr» .entry)) (now («word_indices» .entry)) (now (masks .entry))))) ⌝ }
 {
     let mut members: usize = 0;
     let mut pairs: usize = 0;
@@ -308,6 +387,7 @@ fn settle_members(
                 members += 1;
                 pairs += row.pairs;
                 sources += row.sources;
+                mask::inner::put(n, paired, r, row.pairs > 0);
                 r = mask::inner::next_member(n, region, r + 1);
             }
         }
@@ -319,7 +399,38 @@ fn settle_members(
     })
 }
 
-// The same with an empty mask of its own: 16,384 words hold the 1,048,576 nodes that a matrix has at most.
+// 23 and 24 by local row, what the rows hold, and, where all of them bind, the mask of those that have a pair: the others need no second look. The
+// mask is empty at first. 16,384 words hold the 1,048,576 nodes that a matrix has at most.
+pub fn bind_rows(
+    n: usize,
+    row_word_ptr: &[u32],
+    word_indices: &[u32],
+    masks: &[u64],
+    row_ptr: &[u32],
+    col_idx: &[u32],
+    region: &[u64],
+    paired: &mut [u64],
+) -> Binding
+    requires { ⌜ IsSide n n (now «row_word_ptr») (now «word_indices») (now masks) × IsMatrix n n (now «row_ptr») (now «col_idx») × IsMask n (now region) × (now paired ≡ maskWords n (λ i. false)) ⌝ }
+    ensures { λ b. ⌜ b ≡ after (bindingCheck n (inMask (now (region .entry))) (sideHolds (now («row_word_ptr» .entry)) (now («word_indices» .entry)) (now (masks .entry))) (stored (now («row_ptr» .entry)) (now («col_idx» .entry)))) (Binding.Bound (countsOf n (inMask (now (region .entry))) (sideHolds (now («row_word_ptr» .entry)) (now («word_indices» .entry)) (now (masks .entry))) (now («row_ptr» .entry)) (now («col_idx» .entry)))) Binding.Refused ⌝ }
+    ensures marks { λ _. ⌜ (bindingCheck n (inMask (now (region .entry))) (sideHolds (now («row_word_ptr» .entry)) (now («word_indices» .entry)) (now (masks .entry))) (stored (now («row_ptr» .entry)) (now («col_idx» .entry))) ≡ Checked.Accepted → now (paired .exit) ≡ maskWords n (hasPair n (inMask (now (region .entry))) (sideHolds (now («row_word_ptr» .entry)) (now («word_indices» .entry)) (now (masks .entry))))) ⌝ }
+{
+    let mut seen: [u64; 16384] = [0; 16384];
+    let need = mask::inner::words_for(n);
+    settle_members(
+        n,
+        row_word_ptr,
+        word_indices,
+        masks,
+        row_ptr,
+        col_idx,
+        region,
+        paired,
+        &mut seen[0..need],
+    )
+}
+
+// The same where nobody asks for the mask.
 pub fn bind(
     n: usize,
     row_word_ptr: &[u32],
@@ -332,9 +443,9 @@ pub fn bind(
     requires { ⌜ IsSide n n (now «row_word_ptr») (now «word_indices») (now masks) × IsMatrix n n (now «row_ptr») (now «col_idx») × IsMask n (now region) ⌝ }
     ensures { λ b. ⌜ b ≡ after (bindingCheck n (inMask (now (region .entry))) (sideHolds (now («row_word_ptr» .entry)) (now («word_indices» .entry)) (now (masks .entry))) (stored (now («row_ptr» .entry)) (now («col_idx» .entry)))) (Binding.Bound (countsOf n (inMask (now (region .entry))) (sideHolds (now («row_word_ptr» .entry)) (now («word_indices» .entry)) (now (masks .entry))) (now («row_ptr» .entry)) (now («col_idx» .entry)))) Binding.Refused ⌝ }
 {
-    let mut seen: [u64; 16384] = [0; 16384];
+    let mut paired: [u64; 16384] = [0; 16384];
     let need = mask::inner::words_for(n);
-    settle_members(
+    bind_rows(
         n,
         row_word_ptr,
         word_indices,
@@ -342,6 +453,6 @@ pub fn bind(
         row_ptr,
         col_idx,
         region,
-        &mut seen[0..need],
+        &mut paired[0..need],
     )
 }

@@ -1,34 +1,40 @@
 -- One row: its columns are those of its entries, and where they were written from the topology's words, the entries found by them are the row's.
--- Assumes nothing.
-use mathlib.Core.Path.{_≡_, refl, sym, ap, _∙_, subst}
+-- A row that is not marked has none. Assumes nothing.
+use mathlib.Core.Path.{_≡_, refl, sym, ap, _∙_}
 use mathlib.Core.Bool.{Bool, true, false, _&&_}
-use mathlib.Core.List.{List, map, _++_}
+use mathlib.Core.List.{List, [], _∷_, map}
 use Prim.Native.Nat.{ℕ, _+_, _-_, _≤_, _<_}
+use native.Mathlib.Nat.{add-zero}
 use native.Mathlib.Omega.{arith}
-use lib.Dec.{T}
-use lib.ListN.{length, getD, take, drop, length-map, List·getD-append}
-use lib.Seq.{slice, length-take-le, getD-take}
-use Rattle.base.specs.Lists.{joinBelow, isIn, over, placed}
-use Rattle.base.specs.Sets.{membersBelow}
-use Rattle.base.proofs.Bools.{and-l}
-use Rattle.base.proofs.Joins.{join-cong, join-count}
-use Rattle.base.proofs.Lists.{getD-map, listFrom-cong, over-at, over-room, placed-length}
-use Rattle.base.proofs.Placed.{getD-placed, getD-placed-past}
+use borrow.Author.Tests.{ltb-false}
+use lib.Dec.{T, ltb}
+use lib.ListN.{length, getD, length-map}
+use lib.Seq.{slice}
+use Rattle.base.specs.Checks.{sideLimit}
+use Rattle.base.specs.Lists.{isIn, listFrom, joinBelow, over, placed}
+use Rattle.base.specs.Sets.{countBelow, membersBelow}
+use Rattle.base.proofs.Bools.{T-true, and-l, not-T-of}
+use Rattle.base.proofs.Joins.{join-none, join-cong, join-count}
+use Rattle.base.proofs.Lists.{getD-map, listFrom-cong, over-at, over-room, placed-none, placed-length}
+use Rattle.base.proofs.Placed.{getD-placed}
 use Rattle.base.proofs.Sets.{count-member, count-members, getD-count, members-at, members-count, members-ext, members-over, members-rising}
-use Rattle.mask.specs.Mask.{inMask, IsMask}
+use Rattle.mask.specs.Mask.{inMask, maskWords, IsMask}
+use Rattle.mask.proofs.Masks.{mask-holds, is-of}
 use Rattle.csr32.specs.Matrix.{stored, IsMatrix}
 use Rattle.pattern.specs.Pattern.{numberOf, inside, columnsOf}
 use Rattle.pattern.specs.Steps.{ranksOf}
 use Rattle.pattern.proofs.Writing.{ranks-long, ranks-at}
+use Rattle.binding.specs.Steps.{hasPair}
 use Rattle.sources.specs.Sources.{entriesIn, entriesOf}
 use Rattle.sources.specs.Steps.{columnAt, Local, pairAt, columnsIn, insideIn, entriesAt, endsFrom, Put}
-use Rattle.numeric_plan.specs.Steps.{rowEntries, Numbered}
+use Rattle.sources.proofs.Inside.{put-none, put-same}
+use Rattle.numeric_plan.specs.Steps.{rowEntries, Tables, Marked}
 use Rattle.numeric_plan.proofs.Binding.{row-sources}
 
 -- the region's tables, once they are written
-pub numbered : (n : ℕ) (region ranks₀ ranks nodes₀ nodes : List ℕ) → IsMask n region → ranks ≡ over (ranksOf n (inMask region)) ranks₀ → nodes ≡ over (membersBelow n (inMask region)) nodes₀
-    → Numbered n region ranks nodes
-numbered n region ranks₀ ranks nodes₀ nodes mask filled listed =
+pub tables : (n : ℕ) (region ranks₀ ranks nodes₀ nodes : List ℕ) → IsMask n region → ranks ≡ over (ranksOf n (inMask region)) ranks₀ → nodes ≡ over (membersBelow n (inMask region)) nodes₀
+    → Tables n region ranks nodes
+tables n region ranks₀ ranks nodes₀ nodes mask filled listed =
     record {
       mask = mask;
       ranks-at = ranks-at n (inMask region) ranks₀ ranks filled;
@@ -36,6 +42,42 @@ numbered n region ranks₀ ranks nodes₀ nodes mask filled listed =
       nodes-at = λ k h. ap (λ (l : List ℕ). getD l k 0) listed ∙ over-at (membersBelow n (inMask region)) nodes₀ k 0 (omega (arith, count-members n (inMask region)));
       nodes-long = omega (arith, ap length listed, over-room (membersBelow n (inMask region)) nodes₀, count-members n (inMask region));
     }
+
+-- the region marks itself
+pub marked-itself : (n : ℕ) (region : List ℕ) (s : ℕ → ℕ → Bool) → IsMask n region → Marked n region region s
+marked-itself n region s mask = record { mask = mask; none = λ r h t f. absurd (not-T-of (inMask region r) f t) }
+
+-- and so does the mask of its rows that have a pair
+pub marked-by : (n : ℕ) (region paired : List ℕ) (s : ℕ → ℕ → Bool) → n ≤ sideLimit → paired ≡ maskWords n (hasPair n (inMask region) s) → Marked n region paired s
+marked-by n region paired s h e =
+    record {
+      mask = is-of n (hasPair n (inMask region) s) paired h e;
+      none = λ r l t f. let z : ltb 0 (pairs r) ≡ false = sym (ap (λ (b : Bool). b && ltb 0 (pairs r)) (T-true (inMask region r) t)) ∙ sym (mask-holds n (hasPair n (inMask region) s) r l) ∙ ap (λ (x : List ℕ). inMask x r) (sym e) ∙ f in omega (arith, ltb-false 0 (pairs r) z);
+    }
+  where
+    pairs : ℕ → ℕ
+    pairs r = countBelow n (inside (inMask region) s r)
+
+module _ (region : List ℕ) (first at most : ℕ) (lcols sptr src : List ℕ) where
+  -- the lists as they are hold what a row with these columns and entries writes
+  abbrev Left : List ℕ → (ℕ → List ℕ) → Type 0
+  Left C E =
+      ((first ≡ first + length C) × (at ≡ at + length (joinBelow (length C) E)))
+      × ((lcols ≡ placed first (map (numberOf (inMask region)) C) lcols) × ((sptr ≡ placed (first + 1) (endsFrom at (length C) E) sptr) × Put at most (joinBelow (length C) E) src src))
+
+  nothing : (C : List ℕ) (E : ℕ → List ℕ) → length C ≡ 0 → Left C E
+  unfolding listFrom
+  nothing [] E z = (
+    (sym (add-zero first), sym (ap (λ (x : List ℕ). at + length x) (join-none E) ∙ add-zero at)),
+    (sym (placed-none first lcols), (sym (placed-none (first + 1) sptr), put-same at most [] (joinBelow 0 E) src src (sym (join-none E)) (put-none at most src))),
+  )
+  nothing (x ∷ C) E z = absurd (omega arith)
+
+  -- a member's row that is not marked
+  pub row-empty : (n : ℕ) (paired : List ℕ) (s : ℕ → ℕ → Bool) (ptr cols : List ℕ) (r : ℕ) → Marked n region paired s → r < n → T (inMask region r) → inMask paired r ≡ false
+      → Left (columnsOf n (inMask region) s r) (rowEntries n (inMask region) s ptr cols r)
+  row-empty n paired s ptr cols r marked low member unmarked =
+      nothing (columnsOf n (inMask region) s r) (rowEntries n (inMask region) s ptr cols r) (count-members n (inside (inMask region) s r) ∙ marked .none r low member unmarked)
 
 under : (a b d : Bool) → (T a → b ≡ d) → (a && b) ≡ (a && d)
 under true b d h = h tt
@@ -79,27 +121,7 @@ module _ (p : ℕ → Bool) (cols : List ℕ) (start end at most next : ℕ) (be
         ap (λ (e : ℕ). getD cols e 0) (put .here (i + 1) h),
       )
 
-pub put-same : (at most : ℕ) (list list′ before after : List ℕ) → list ≡ list′ → Put at most list before after → Put at most list′ before after
-put-same at most list list′ before after e put = subst (λ (l : List ℕ). Put at most l before after) e put
-
--- a list placed over one that was put there
-pub put-placed : (at most : ℕ) (chosen list before mid after : List ℕ) → at + length list ≤ most → most ≤ length before → Put at most chosen before mid → after ≡ placed at list mid → Put at most list before after
-unfolding placed
-put-placed at most chosen list before mid after fits inside put e =
-    record {
-      long = ap length e ∙ placed-length at list mid (omega (arith, put .long)) ∙ put .long;
-      kept = λ i l.
-          ap (λ (x : List ℕ). getD x i 0) e
-          ∙ List·getD-append (take at mid) (list ++ drop (at + length list) mid) 0 i (omega (arith, length-take-le at mid (omega (arith, put .long))))
-          ∙ getD-take at mid i 0 l ∙ put .kept i l;
-      here = λ i l. ap (λ (x : List ℕ). getD x (at + i) 0) e ∙ getD-placed at list mid i 0 (omega (arith, put .long)) l;
-      past = λ i l.
-          let s : at + length list + (i - (at + length list)) ≡ i = omega arith in
-          ap (λ (x : List ℕ). getD x i 0) e ∙ ap (λ (k : ℕ). getD (placed at list mid) k 0) (sym s)
-          ∙ getD-placed-past at list mid (i - (at + length list)) 0 (omega (arith, put .long)) ∙ ap (λ (k : ℕ). getD mid k 0) s ∙ put .past i l;
-    }
-
-module _ (n : ℕ) (region ranks nodes : List ℕ) (num : Numbered n region ranks nodes) (s : ℕ → ℕ → Bool) (r first : ℕ) (before lcols : List ℕ)
+module _ (n : ℕ) (region ranks nodes : List ℕ) (num : Tables n region ranks nodes) (s : ℕ → ℕ → Bool) (r first : ℕ) (before lcols : List ℕ)
     (fits : first + length (columnsOf n (inMask region) s r) ≤ length before) (put : lcols ≡ placed first (map (numberOf (inMask region)) (columnsOf n (inMask region) s r)) before) where
   abbrev p : ℕ → Bool
   p = inMask region

@@ -1,16 +1,16 @@
 -- What the steps of a plan hand on to one another; no caller of the API needs it.
 use mathlib.Core.Path.{_≡_}
-use mathlib.Core.Bool.{Bool}
+use mathlib.Core.Bool.{Bool, false}
 use mathlib.Core.List.{List}
 use Prim.Native.Nat.{ℕ, _+_, _-_, _*_, _≤_, _<_}
-use lib.Dec.{eqb, leb, ltb}
+use lib.Dec.{T, eqb, leb, ltb}
 use lib.ListN.{length, getD}
 use Rattle.base.specs.Checks.{must, _then_, sideLimit, entryLimit}
 use Rattle.base.specs.Lists.{joinBelow}
 use Rattle.base.specs.Sets.{countBelow}
 use Rattle.base.specs.declared.Checked.{Checked}
 use Rattle.mask.specs.Mask.{inMask, wordsFor, IsMask}
-use Rattle.pattern.specs.Pattern.{memberAt, columnsOf, patternBytes}
+use Rattle.pattern.specs.Pattern.{memberAt, inside, columnsOf, patternBytes}
 use Rattle.pattern.specs.Steps.{roomFor}
 use Rattle.sources.specs.Steps.{entriesAt}
 use Rattle.binding.specs.declared.Counts.{Counts}
@@ -21,7 +21,7 @@ abbrev pub rowEntries : ℕ → (ℕ → Bool) → (ℕ → ℕ → Bool) → Li
 rowEntries n p s ptr cols r = entriesAt cols (getD ptr r 0) (getD ptr (r + 1) 0) (columnsOf n p s r)
 
 -- the region's tables: members before each word, and the members in rising order
-pub record Numbered (n : ℕ) (region ranks nodes : List ℕ) : Type 0 where
+pub record Tables (n : ℕ) (region ranks nodes : List ℕ) : Type 0 where
   pub mask : IsMask n region
   pub ranks-at : (w : ℕ) → w < wordsFor n → getD ranks w 0 ≡ countBelow (64 * w) (inMask region)
   pub ranks-long : wordsFor n ≤ length ranks
@@ -35,6 +35,11 @@ pub record RowRoom (columns : List ℕ) (entries : ℕ → List ℕ) (first at m
   pub within : at + length (joinBelow (length columns) entries) ≤ most
   pub inside : most ≤ length sources
   pub small : most ≤ entryLimit
+
+-- every member whose row has a pair inside is marked
+pub record Marked (n : ℕ) (region paired : List ℕ) (s : ℕ → ℕ → Bool) : Type 0 where
+  pub mask : IsMask n paired
+  pub none : (r : ℕ) → r < n → T (inMask region r) → inMask paired r ≡ false → countBelow n (inside (inMask region) s r) ≡ 0
 
 -- 25, by the counts
 unfoldable pub planRoomFor : Counts → ℕ → ℕ → ℕ → ℕ → ℕ → Checked

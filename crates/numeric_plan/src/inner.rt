@@ -17,17 +17,18 @@ ghost use Rattle.sources.specs.Steps.{endsFrom, Put};
 ghost use Rattle.binding.specs.Binding.{bindingCheck};
 ghost use Rattle.gather.specs.Plan.{planSources, planPtr};
 ghost use Rattle.numeric_plan.specs.Plan.{pairEntries};
-ghost use Rattle.numeric_plan.specs.Steps.{rowEntries, Numbered, RowRoom};
+ghost use Rattle.numeric_plan.specs.Steps.{rowEntries, Tables, RowRoom, Marked};
 
 // Row r, whose pairs inside are its entries: its columns by number from `first` on, their sources from `at` on, of `most` in all, and where each
-// one's end. The entries inside are chosen first; where their columns rise the pairs follow from them, any other row is written from its words and
-// then in n log n. Where the row's end.
+// one's end. Rows that `paired` does not mark have nothing to write. The entries inside are chosen first; where their columns rise the pairs follow
+// from them, any other row is written from its words and then in n log n. Where the row's end.
 fn write_row(
     n: usize,
     row_word_ptr: &[u32],
     word_indices: &[u32],
     masks: &[u64],
     region: &[u64],
+    paired: &[u64],
     ranks: &[u32],
     row_ptr: &[u32],
     col_idx: &[u32],
@@ -40,12 +41,18 @@ fn write_row(
     at: usize,
     most: usize,
 ) -> RowEnd
-    requires { ⌜ IsSide n n (now «row_word_ptr») (now «word_indices») (now masks) × IsMatrix n n (now «row_ptr») (now «col_idx») × Numbered n (now region) (now ranks) (now nodes) × (r < n) × ((c : ℕ) → c < n → T (inMask (now region) c) → sideHolds (now «row_word_ptr») (now «word_indices») (now masks) r c ≡ stored (now «row_ptr») (now «col_idx») r c) × RowRoom (columnsOf n (inMask (now region)) (sideHolds (now «row_word_ptr») (now «word_indices») (now masks)) r) (rowEntries n (inMask (now region)) (sideHolds (now «row_word_ptr») (now «word_indices») (now masks)) (now «row_ptr») (now «col_idx») r) first at most (now «local_cols») (now «source_ptr») (now sources) ⌝ }
+    requires { ⌜ IsSide n n (now «row_word_ptr») (now «word_indices») (now masks) × IsMatrix n n (now «row_ptr») (now «col_idx») × Tables n (now region) (now ranks) (now nodes) × (r < n) × ((c : ℕ) → c < n → T (inMask (now region) c) → sideHolds (now «row_word_ptr») (now «word_indices») (now masks) r c ≡ stored (now «row_ptr») (now «col_idx») r c) × RowRoom (columnsOf n (inMask (now region)) (sideHolds (now «row_word_ptr») (now «word_indices») (now masks)) r) (rowEntries n (inMask (now region)) (sideHolds (now «row_word_ptr») (now «word_indices») (now masks)) (now «row_ptr») (now «col_idx») r) first at most (now «local_cols») (now «source_ptr») (now sources) × Marked n (now region) (now paired) (sideHolds (now «row_word_ptr») (now «word_indices») (now masks)) × T (inMask (now region) r) ⌝ }
     ensures { λ e. ⌜ (e .pair ≡ first + length (columnsOf n (inMask (now (region .entry))) (sideHolds (now («row_word_ptr» .entry)) (now («word_indices» .entry)) (now (masks .entry))) r)) × (e .source ≡ at + length (joinBelow (length (columnsOf n (inMask (now (region .entry))) (sideHolds (now («row_word_ptr» .entry)) (now («word_indices» .entry)) (now (masks .entry))) r)) (rowEntries n (inMask (now (region .entry))) (sideHolds (now («row_word_ptr» .entry)) (now («word_indices» .entry)) (now (masks .entry))) (now («row_ptr» .entry)) (now («col_idx» .entry)) r))) ⌝ }
     ensures columns { λ _. ⌜ now («local_cols» .exit) ≡ placed first (map (numberOf (inMask (now (region .entry)))) (columnsOf n (inMask (now (region .entry))) (sideHolds (now («row_word_ptr» .entry)) (now («word_indices» .entry)) (now (masks .entry))) r)) (now («local_cols» .entry)) ⌝ }
     ensures starts { λ _. ⌜ now («source_ptr» .exit) ≡ placed (first + 1) (endsFrom at (length (columnsOf n (inMask (now (region .entry))) (sideHolds (now («row_word_ptr» .entry)) (now («word_indices» .entry)) (now (masks .entry))) r)) (rowEntries n (inMask (now (region .entry))) (sideHolds (now («row_word_ptr» .entry)) (now («word_indices» .entry)) (now (masks .entry))) (now («row_ptr» .entry)) (now («col_idx» .entry)) r)) (now («source_ptr» .entry)) ⌝ }
     ensures entries { λ _. ⌜ Put at most (joinBelow (length (columnsOf n (inMask (now (region .entry))) (sideHolds (now («row_word_ptr» .entry)) (now («word_indices» .entry)) (now (masks .entry))) r)) (rowEntries n (inMask (now (region .entry))) (sideHolds (now («row_word_ptr» .entry)) (now («word_indices» .entry)) (now (masks .entry))) (now («row_ptr» .entry)) (now («col_idx» .entry)) r)) (now (sources .entry)) (now (sources .exit)) ⌝ }
 {
+    if !mask::inner::holds(n, paired, r) {
+        return RowEnd {
+            pair: first,
+            source: at,
+        };
+    }
     let start = row_ptr[r] as usize;
     let end = row_ptr[r + 1] as usize;
     let next = sources::inner::take_inside(n, region, col_idx, start, end, sources, at, most);
@@ -102,6 +109,7 @@ fn write_rows(
     word_indices: &[u32],
     masks: &[u64],
     region: &[u64],
+    paired: &[u64],
     ranks: &[u32],
     row_ptr: &[u32],
     col_idx: &[u32],
@@ -113,7 +121,7 @@ fn write_rows(
     source_ptr: &mut [u32],
     sources: &mut [u32],
 )
-    requires { ⌜ IsSide n n (now «row_word_ptr») (now «word_indices») (now masks) × IsMatrix n n (now «row_ptr») (now «col_idx») × Numbered n (now region) (now ranks) (now nodes) × (bindingCheck n (inMask (now region)) (sideHolds (now «row_word_ptr») (now «word_indices») (now masks)) (stored (now «row_ptr») (now «col_idx»)) ≡ Checked.Accepted) × (members ≡ countBelow n (inMask (now region))) × (members < length (now «local_ptr»)) × (pairsInside n (inMask (now region)) (sideHolds (now «row_word_ptr») (now «word_indices») (now masks)) ≤ length (now «local_cols»)) × (pairsInside n (inMask (now region)) (sideHolds (now «row_word_ptr») (now «word_indices») (now masks)) < length (now «source_ptr»)) × (terms ≡ length (planSources (pairEntries n (inMask (now region)) (sideHolds (now «row_word_ptr») (now «word_indices») (now masks)) (now «row_ptr») (now «col_idx»)))) × (terms ≤ length (now sources)) ⌝ }
+    requires { ⌜ IsSide n n (now «row_word_ptr») (now «word_indices») (now masks) × IsMatrix n n (now «row_ptr») (now «col_idx») × Tables n (now region) (now ranks) (now nodes) × (bindingCheck n (inMask (now region)) (sideHolds (now «row_word_ptr») (now «word_indices») (now masks)) (stored (now «row_ptr») (now «col_idx»)) ≡ Checked.Accepted) × (members ≡ countBelow n (inMask (now region))) × (members < length (now «local_ptr»)) × (pairsInside n (inMask (now region)) (sideHolds (now «row_word_ptr») (now «word_indices») (now masks)) ≤ length (now «local_cols»)) × (pairsInside n (inMask (now region)) (sideHolds (now «row_word_ptr») (now «word_indices») (now masks)) < length (now «source_ptr»)) × (terms ≡ length (planSources (pairEntries n (inMask (now region)) (sideHolds (now «row_word_ptr») (now «word_indices») (now masks)) (now «row_ptr») (now «col_idx»)))) × (terms ≤ length (now sources)) × Marked n (now region) (now paired) (sideHolds (now «row_word_ptr») (now «word_indices») (now masks)) ⌝ }
     ensures pointers { λ _. ⌜ now («local_ptr» .exit) ≡ over (patternPtr n (inMask (now (region .entry))) (sideHolds (now («row_word_ptr» .entry)) (now («word_indices» .entry)) (now (masks .entry)))) (now («local_ptr» .entry)) ⌝ }
     ensures columns { λ _. ⌜ now («local_cols» .exit) ≡ over (patternColumns n (inMask (now (region .entry))) (sideHolds (now («row_word_ptr» .entry)) (now («word_indices» .entry)) (now (masks .entry)))) (now («local_cols» .entry)) ⌝ }
     ensures starts { λ _. ⌜ now («source_ptr» .exit) ≡ over (planPtr (pairEntries n (inMask (now (region .entry))) (sideHolds (now («row_word_ptr» .entry)) (now («word_indices» .entry)) (now (masks .entry))) (now («row_ptr» .entry)) (now («col_idx» .entry)))) (now («source_ptr» .entry)) ⌝ }
@@ -131,6 +139,7 @@ fn write_rows(
             word_indices,
             masks,
             region,
+            paired,
             ranks,
             row_ptr,
             col_idx,
@@ -157,6 +166,7 @@ pub fn write(
     word_indices: &[u32],
     masks: &[u64],
     region: &[u64],
+    paired: &[u64],
     row_ptr: &[u32],
     col_idx: &[u32],
     terms: usize,
@@ -166,7 +176,7 @@ pub fn write(
     source_ptr: &mut [u32],
     sources: &mut [u32],
 )
-    requires { ⌜ IsSide n n (now «row_word_ptr») (now «word_indices») (now masks) × IsMatrix n n (now «row_ptr») (now «col_idx») × IsMask n (now region) × (bindingCheck n (inMask (now region)) (sideHolds (now «row_word_ptr») (now «word_indices») (now masks)) (stored (now «row_ptr») (now «col_idx»)) ≡ Checked.Accepted) × (countBelow n (inMask (now region)) ≤ length (now nodes)) × (countBelow n (inMask (now region)) < length (now «local_ptr»)) × (pairsInside n (inMask (now region)) (sideHolds (now «row_word_ptr») (now «word_indices») (now masks)) ≤ length (now «local_cols»)) × (pairsInside n (inMask (now region)) (sideHolds (now «row_word_ptr») (now «word_indices») (now masks)) < length (now «source_ptr»)) × (terms ≡ length (planSources (pairEntries n (inMask (now region)) (sideHolds (now «row_word_ptr») (now «word_indices») (now masks)) (now «row_ptr») (now «col_idx»)))) × (terms ≤ length (now sources)) ⌝ }
+    requires { ⌜ IsSide n n (now «row_word_ptr») (now «word_indices») (now masks) × IsMatrix n n (now «row_ptr») (now «col_idx») × IsMask n (now region) × (bindingCheck n (inMask (now region)) (sideHolds (now «row_word_ptr») (now «word_indices») (now masks)) (stored (now «row_ptr») (now «col_idx»)) ≡ Checked.Accepted) × (countBelow n (inMask (now region)) ≤ length (now nodes)) × (countBelow n (inMask (now region)) < length (now «local_ptr»)) × (pairsInside n (inMask (now region)) (sideHolds (now «row_word_ptr») (now «word_indices») (now masks)) ≤ length (now «local_cols»)) × (pairsInside n (inMask (now region)) (sideHolds (now «row_word_ptr») (now «word_indices») (now masks)) < length (now «source_ptr»)) × (terms ≡ length (planSources (pairEntries n (inMask (now region)) (sideHolds (now «row_word_ptr») (now «word_indices») (now masks)) (now «row_ptr») (now «col_idx»)))) × (terms ≤ length (now sources)) × Marked n (now region) (now paired) (sideHolds (now «row_word_ptr») (now «word_indices») (now masks)) ⌝ }
     ensures members { λ _. ⌜ now (nodes .exit) ≡ over (membersBelow n (inMask (now (region .entry)))) (now (nodes .entry)) ⌝ }
     ensures pointers { λ _. ⌜ now («local_ptr» .exit) ≡ over (patternPtr n (inMask (now (region .entry))) (sideHolds (now («row_word_ptr» .entry)) (now («word_indices» .entry)) (now (masks .entry)))) (now («local_ptr» .entry)) ⌝ }
     ensures columns { λ _. ⌜ now («local_cols» .exit) ≡ over (patternColumns n (inMask (now (region .entry))) (sideHolds (now («row_word_ptr» .entry)) (now («word_indices» .entry)) (now (masks .entry)))) (now («local_cols» .entry)) ⌝ }
@@ -182,6 +192,7 @@ pub fn write(
         word_indices,
         masks,
         region,
+        paired,
         &ranks,
         row_ptr,
         col_idx,

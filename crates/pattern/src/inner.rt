@@ -184,7 +184,7 @@ pub fn write_nodes(n: usize, region: &[u64], nodes: &mut [u32]) -> usize
     k
 }
 
-// How many members come before each word of the region.
+// How many members come before each word of the region. A word without one, as most are in a small region, is not counted.
 pub fn fill_ranks(n: usize, region: &[u64], ranks: &mut [u32])
     requires { ⌜ IsMask n (now region) × (wordsFor n ≤ length (now ranks)) ⌝ }
     ensures { λ _. ⌜ now (ranks .exit) ≡ over (ranksOf n (inMask (now (region .entry)))) (now (ranks .entry)) ⌝ }
@@ -193,7 +193,10 @@ pub fn fill_ranks(n: usize, region: &[u64], ranks: &mut [u32])
     let mut w: usize = 0;
     while w < region.len() {
         ranks[w] = before;
-        before += u64::count_ones(region[w]);
+        let bits = region[w];
+        if bits != 0 {
+            before += u64::count_ones(bits);
+        }
         w += 1;
     }
 }

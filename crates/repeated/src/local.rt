@@ -8,16 +8,16 @@ use pattern::PatternExtracted;
 ghost use mathlib.Core.Path.{_≡_};
 ghost use mathlib.Core.Bool.{true};
 ghost use Prim.Native.Nat.{_-_, _<_, _≤_};
-ghost use lib.ListN.{length, getD};
+ghost use lib.ListN.{length, getD, replicate, take};
 ghost use Rattle.base.specs.Lists.{every, rising, below, over};
 ghost use Rattle.base.specs.Sets.{countBelow, membersBelow};
-ghost use Rattle.mask.specs.Mask.{inMask, IsMask};
+ghost use Rattle.mask.specs.Mask.{inMask, wordsFor, maskWords, IsMask};
 ghost use Rattle.csr32.specs.Matrix.{matrixCheck, stored};
 ghost use Rattle.side.specs.Side.{sideHolds};
 ghost use Rattle.side.specs.Check.{IsSide};
 ghost use Rattle.dual_topology.specs.Check.{topologyCheck};
 ghost use Rattle.pattern.specs.Pattern.{patternCheck, patternAnswer, nodesLeft, ptrLeft, columnsLeft, patternPtr, patternColumns, pairsInside};
-ghost use Rattle.binding.specs.Steps.{sourcesInside};
+ghost use Rattle.binding.specs.Steps.{sourcesInside, hasPair};
 ghost use Rattle.numeric_plan.specs.Plan.{pairEntries, planInputs, planCheck, planAnswer, sourcePtrLeft, sourcesLeft};
 ghost use Rattle.gather.specs.Gather.{gatherCheck, gatherAnswer, gatherLeft, gathered};
 ghost use Rattle.repeated.specs.Repeated.{pairsAnswer, sourcesAnswer, countAnswer, refusedAnswer};
@@ -138,7 +138,7 @@ pub extern "C" fn hybit_repeated_pattern(
     }
 }
 
-// 23 and 24 once more, of rows that bind. The count of their sources.
+// 23 and 24 once more, of rows that bind, and which of them have a pair. The count of their sources.
 fn settle(
     n: usize,
     row_word_ptr: &[u32],
@@ -147,11 +147,14 @@ fn settle(
     row_ptr: &[u32],
     col_idx: &[u32],
     region: &[u64],
+    paired: &mut [u64],
 ) -> usize
-    requires { ⌜ Binds n (now «row_word_ptr») (now «word_indices») (now masks) (now «row_ptr») (now «col_idx») (now region) ⌝ }
+    requires { ⌜ Binds n (now «row_word_ptr») (now «word_indices») (now masks) (now «row_ptr») (now «col_idx») (now region) × (now paired ≡ replicate 16384 0) ⌝ }
     ensures { λ r. ⌜ r ≡ sourcesInside n (inMask (now (region .entry))) (now («row_ptr» .entry)) (now («col_idx» .entry)) ⌝ }
+    ensures marks { λ _. ⌜ take (wordsFor n) (now (paired .exit)) ≡ maskWords n (hasPair n (inMask (now (region .entry))) (sideHolds (now («row_word_ptr» .entry)) (now («word_indices» .entry)) (now (masks .entry)))) ⌝ }
 {
-    match binding::inner::bind(
+    let need = mask::inner::words_for(n);
+    match binding::inner::bind_rows(
         n,
         row_word_ptr,
         word_indices,
@@ -159,14 +162,15 @@ fn settle(
         row_ptr,
         col_idx,
         region,
+        &mut paired[..need],
     ) {
         Binding::Refused(_) => 0,
         Binding::Bound(counts) => counts.sources,
     }
 }
 
-// The plan once more, on lists that hold it: they stay as they are.
-fn write_plan(
+// The plan once more, on lists that hold it: they stay as they are. The count of its sources.
+fn plan_again(
     n: usize,
     row_word_ptr: &[u32],
     word_indices: &[u32],
@@ -174,26 +178,39 @@ fn write_plan(
     row_ptr: &[u32],
     col_idx: &[u32],
     region: &[u64],
-    terms: usize,
     nodes: &mut [u32],
     local_ptr: &mut [u32],
     local_cols: &mut [u32],
     source_ptr: &mut [u32],
     sources: &mut [u32],
-)
-    requires { ⌜ PlanHeld n (now «row_word_ptr») (now «word_indices») (now masks) (now «row_ptr») (now «col_idx») (now region) (now nodes) (now «local_ptr») (now «local_cols») (now «source_ptr») (now sources) × (terms ≡ sourcesInside n (inMask (now region)) (now «row_ptr») (now «col_idx»)) ⌝ }
+) -> usize
+    requires { ⌜ PlanHeld n (now «row_word_ptr») (now «word_indices») (now masks) (now «row_ptr») (now «col_idx») (now region) (now nodes) (now «local_ptr») (now «local_cols») (now «source_ptr») (now sources) ⌝ }
+    ensures { λ r. ⌜ r ≡ sourcesInside n (inMask (now (region .entry))) (now («row_ptr» .entry)) (now («col_idx» .entry)) ⌝ }
     ensures members { λ _. ⌜ now (nodes .exit) ≡ now (nodes .entry) ⌝ }
     ensures pointers { λ _. ⌜ now («local_ptr» .exit) ≡ now («local_ptr» .entry) ⌝ }
     ensures columns { λ _. ⌜ now («local_cols» .exit) ≡ now («local_cols» .entry) ⌝ }
     ensures starts { λ _. ⌜ now («source_ptr» .exit) ≡ now («source_ptr» .entry) ⌝ }
     ensures entries { λ _. ⌜ now (sources .exit) ≡ now (sources .entry) ⌝ }
 {
+    let mut paired: [u64; 16384] = [0; 16384];
+    let terms = settle(
+        n,
+        row_word_ptr,
+        word_indices,
+        masks,
+        row_ptr,
+        col_idx,
+        region,
+        &mut paired,
+    );
+    let need = mask::inner::words_for(n);
     numeric_plan::inner::write(
         n,
         row_word_ptr,
         word_indices,
         masks,
         region,
+        &paired[0..need],
         row_ptr,
         col_idx,
         terms,
@@ -203,6 +220,7 @@ fn write_plan(
         source_ptr,
         sources,
     );
+    terms
 }
 
 // The plan `times` more, on lists that hold it: they stay as they are. The count of its sources.
@@ -233,7 +251,7 @@ fn repeat_plan(
     let mut terms = first;
     let mut t: u64 = 0;
     while t < times {
-        terms = settle(
+        terms = plan_again(
             n,
             row_word_ptr,
             word_indices,
@@ -241,16 +259,6 @@ fn repeat_plan(
             row_ptr,
             col_idx,
             region,
-        );
-        write_plan(
-            n,
-            row_word_ptr,
-            word_indices,
-            masks,
-            row_ptr,
-            col_idx,
-            region,
-            terms,
             nodes,
             local_ptr,
             local_cols,

@@ -1,20 +1,18 @@
 -- `binding::inner::follow_row` meets its contract. The invariant: the words of the row before k hold the columns of its entries before e, and what
 -- both hold inside the region is counted. Assumes nothing.
-use mathlib.Core.Path.{_≡_, refl, sym, ap, _∙_}
+use mathlib.Core.Path.{refl}
 use Prim.Native.Nat.{_+_, _-_, _≤_, _<_}
 use native.Mathlib.Omega.{arith}
 use borrow.Author.Tests.{eqb-true}
 use lib.ListN.{length, getD}
 use borrow.Author.Needs.{needs}
 use Rattle.base.proofs.Bools.{both-ways}
-use Rattle.mask.specs.Mask.{inMask, wordsFor}
+use Rattle.mask.specs.Mask.{wordsFor}
 use Rattle.mask.proofs.Masks.{is-length}
-use Rattle.csr32.specs.Matrix.{stored}
 use Rattle.csr32.proofs.Matrix.{ptr-le}
 use Rattle.side.proofs.AtRow.{at-up, at-words, at-masks}
-use Rattle.pattern.proofs.Rows.{keptIn, row-word, row-kept}
-use Rattle.binding.proofs.Sources.{counted}
-use Rattle.binding.proofs.Runs.{same-start, same-turn, same-end, Following, follow-start, follow-turn, pairs-fit, sources-fit}
+use Rattle.pattern.proofs.Rows.{row-word}
+use Rattle.binding.proofs.Runs.{same-start, same-turn, same-end, Following, follow-start, follow-turn, pairs-fit, sources-fit, follow-last}
 use Rattle.binding.proofs.inner.follow_row.Statement.{statement}
 use Rattle.binding.proofs.inner.follow_row.Tie as tie
 
@@ -146,22 +144,10 @@ loop-again c =
     _ _ (c .before .before .before .before .before .take-word .ensures) (c .before .before .if1 .left))
 
 returns-2 : tie.Need-returns-2 Inv-loop μ-loop
-unfolding stored
 returns-2 c =
     let s = c .before .before .before .before .before .before .before .before .before .before .before .before in
     let l = c .before .loop in
-    let idx = s .args .word-indices .now in
-    let m = s .args .masks .now in
-    let g = s .args .region .now in
-    let cols = s .args .col-idx .now in
-    let lo = getD (s .args .row-word-ptr .now) (s .args .r) 0 in
-    let first = getD (s .args .row-ptr .now) (s .args .r) 0 in
-    let last : l .k ≡ getD (s .args .row-word-ptr .now) (s .args .r + 1) 0 = omega (arith, l .inv .match .within, c .loop-test .left) in
-    λ q. (
-      λ i v. same-end idx m cols _ _ _ _ (l .k) (l .e) (l .inv .match) (omega arith) (eqb-true _ _ q) i,
-      l .inv .by-pairs ∙ ap (keptIn idx m g lo) last ∙ sym (row-kept (s .args .n) (s .args .row-word-ptr .now) idx m g (s .pre .0) (s .pre .2) (s .args .r) (s .pre .3)),
-      l .inv .by-sources ∙ ap (counted (λ i. inMask g (getD cols i 0)) first) (eqb-true _ _ q),
-    )
+    λ q. follow-last (s .args .n) (s .args .row-word-ptr .now) (s .args .word-indices .now) (s .args .masks .now) (s .args .row-ptr .now) (s .args .col-idx .now) (s .args .region .now) (s .args .r) (s .pre .0) (s .pre .2) (s .pre .3) (l .k) (l .e) (l .pairs) (l .sources) (omega (arith, c .loop-test .left)) (eqb-true _ _ q) (l .inv)
 
 pub follow-row-spec : {M : Type 1} → statement M
 follow-row-spec =

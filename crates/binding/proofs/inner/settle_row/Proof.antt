@@ -12,13 +12,13 @@ use Rattle.binding.proofs.Sources.{row-bound, row-follows}
 use Rattle.binding.proofs.inner.settle_row.Statement.{statement}
 use Rattle.binding.proofs.inner.settle_row.Tie as tie
 
-follow-row-requires : tie.Need-follow-row-requires
-follow-row-requires c κs = (c .before .before .before .before .before .before .before .pre .0, c .before .before .before .before .before .before .before .pre .1, c .before .before .before .before .before .before .before .pre .2, c .before .before .before .before .before .before .before .pre .3)
+follow-requires : tie.Need-follow-requires
+follow-requires c κs = (c .before .before .before .before .before .before .before .pre .0, c .before .before .before .before .before .before .before .pre .1, c .before .before .before .before .before .before .before .pre .2, c .before .before .before .before .before .before .before .pre .3)
 
 returns : tie.Need-returns
 returns c =
     let s = c .before .before .before .before .before .before .before .before .before in
-    (row-follows (s .args .n) (inMask (s .args .region .now)) (sideHolds (s .args .row-word-ptr .now) (s .args .word-indices .now) (s .args .masks .now)) (s .args .row-ptr .now) (s .args .col-idx .now) (s .args .r) (c .before .follow-row .result .pairs) (c .before .follow-row .result .sources) (c .before .follow-row .ensures (c .if1 .taken)), s .pre .4)
+    (row-follows (s .args .n) (inMask (s .args .region .now)) (sideHolds (s .args .row-word-ptr .now) (s .args .word-indices .now) (s .args .masks .now)) (s .args .row-ptr .now) (s .args .col-idx .now) (s .args .r) (c .before .follow .result .pairs) (c .before .follow .result .sources) (c .before .follow .ensures (c .if1 .taken)), s .pre .4)
 
 check-row-requires : tie.Need-check-row-requires
 check-row-requires c κs = (c .before .before .before .before .before .before .before .before .before .before .pre .0, c .before .before .before .before .before .before .before .before .before .before .pre .1, c .before .before .before .before .before .before .before .before .before .before .pre .2, c .before .before .before .before .before .before .before .before .before .before .pre .3, c .before .before .before .before .before .before .before .before .before .before .pre .4)
@@ -74,7 +74,7 @@ pub settle-row-spec : {M : Type 1} → statement M
 settle-row-spec =
     tie.close
     (tie.spec
-    follow-row-requires
+    follow-requires
     returns
     check-row-requires
     enum-known-f

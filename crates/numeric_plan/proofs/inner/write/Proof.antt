@@ -1,7 +1,7 @@
 -- `numeric_plan::inner::write` meets its contract. Assumes nothing.
 use borrow.Author.Needs.{needs}
 use native.Mathlib.Omega.{arith}
-use Rattle.numeric_plan.proofs.OneRow.{numbered}
+use Rattle.numeric_plan.proofs.OneRow.{tables}
 use Rattle.numeric_plan.proofs.inner.write.Statement.{statement}
 use Rattle.numeric_plan.proofs.inner.write.Tie as tie
 
@@ -9,19 +9,19 @@ slice-aggregate-fill-ranks : tie.Need-slice-aggregate-fill-ranks
 slice-aggregate-fill-ranks c = search needs
 
 fill-ranks-requires : tie.Need-fill-ranks-requires
-fill-ranks-requires c κs = (c .before .before .before .before .before .before .before .before .before .before .before .before .pre .2, omega (arith, c .before .before .before .before .before .before .before .before .before .before .before .before .pre .2 .short))
+fill-ranks-requires c κs = (c .before .before .before .before .before .before .before .before .before .before .before .before .before .pre .2, omega (arith, c .before .before .before .before .before .before .before .before .before .before .before .before .before .pre .2 .short))
 
 write-nodes-requires : tie.Need-write-nodes-requires
-write-nodes-requires c κs = (c .before .before .before .before .before .before .before .before .before .before .before .before .before .before .before .pre .2, c .before .before .before .before .before .before .before .before .before .before .before .before .before .before .before .pre .4)
+write-nodes-requires c κs = (c .before .before .before .before .before .before .before .before .before .before .before .before .before .before .before .before .pre .2, c .before .before .before .before .before .before .before .before .before .before .before .before .before .before .before .before .pre .4)
 
 slice-aggregate-write-rows : tie.Need-slice-aggregate-write-rows
 slice-aggregate-write-rows c = search needs
 
 write-rows-requires : tie.Need-write-rows-requires
 write-rows-requires c κs =
-    let s = c .before .before .before .before .before .before .before .before .before .before .before .before .before .before .before .before .before .before .before .before .before .before .before .before in
+    let s = c .before .before .before .before .before .before .before .before .before .before .before .before .before .before .before .before .before .before .before .before .before .before .before .before .before in
     let q = s .pre in
-    (q .0, q .1, numbered (s .args .n) (s .args .region .now) _ _ _ _ (q .2) (c .before .before .before .before .before .before .before .before .before .before .before .fill-ranks .ensures) (c .before .before .before .before .before .before .before .before .write-nodes .ensures .1), q .3, c .before .before .before .before .before .before .before .before .write-nodes .ensures .0, rw (c .before .before .before .before .before .before .before .before .write-nodes .ensures .0) (q .5), q .6, q .7, q .8, q .9)
+    (q .0, q .1, tables (s .args .n) (s .args .region .now) _ _ _ _ (q .2) (c .before .before .before .before .before .before .before .before .before .before .before .fill-ranks .ensures) (c .before .before .before .before .before .before .before .before .write-nodes .ensures .1), q .3, c .before .before .before .before .before .before .before .before .write-nodes .ensures .0, rw (c .before .before .before .before .before .before .before .before .write-nodes .ensures .0) (q .5), q .6, q .7, q .8, q .9, q .10)
 
 same-length : tie.Need-same-length
 same-length c = search needs

@@ -1,5 +1,6 @@
 -- `pattern::inner::fill_ranks` meets its contract. The invariant: the words before w are written, and their members counted. Assumes nothing.
 use mathlib.Core.Path.{_≡_, refl, sym, ap, _∙_}
+use mathlib.Core.Logic.{⊎-elim}
 use Prim.Native.Nat.{ℕ, _+_, _-_, _*_, _^_, _≤_, _<_}
 use native.Mathlib.Omega.{arith}
 use native.Mathlib.Nat.{zero-add}
@@ -42,16 +43,16 @@ mul-ranks c = omega (arith, in-ranks c)
 slice-write-ranks : tie.Need-slice-write-ranks Inv-loop μ-loop
 slice-write-ranks c = omega (arith, in-ranks c)
 
-mul-before : tie.Need-mul-before Inv-loop μ-loop
-mul-before c = omega arith
+mul-bits : tie.Need-mul-bits Inv-loop μ-loop
+mul-bits c = omega arith
 
-shared-slice-read-before : tie.Need-shared-slice-read-before Inv-loop μ-loop
-shared-slice-read-before c = omega arith
+shared-slice-read-bits : tie.Need-shared-slice-read-bits Inv-loop μ-loop
+shared-slice-read-bits c = omega arith
 
 add-before : tie.Need-add-before Inv-loop μ-loop
 add-before c =
-    let s = c .before .before .before in
-    omega (arith, ones-le 64 (word c) (fits c), c .before .before .loop .inv .2, count-le (64 * c .before .before .loop .w) (inMask (s .args .region .now)), is-length _ _ (s .pre .0), s .pre .0 .short)
+    let s = c .before .before .before .before in
+    omega (arith, ones-le 64 (word (c .before)) (fits (c .before)), c .before .before .before .loop .inv .2, count-le (64 * c .before .before .before .loop .w) (inMask (s .args .region .now)), is-length _ _ (s .pre .0), s .pre .0 .short)
 
 add-w : tie.Need-add-w Inv-loop μ-loop
 add-w c = omega arith
@@ -61,15 +62,18 @@ loop-less c = omega arith
 
 loop-again : tie.Need-loop-again Inv-loop μ-loop
 loop-again c =
-    let s = c .before .before .before in
-    let l = c .before .before .loop in
+    let s = c .before .before .before .before in
+    let l = c .before .before .before .loop in
+    let v = c .before in
     let p = inMask (s .args .region .now) in
     let n = s .args .n in
+    let none : word v ≡ 0 → l .before ≡ l .before + ones (word v) = λ z. let few : ones (word v) ≤ 0 = ones-le 0 (word v) (omega (arith, z)) in omega (arith, few) in
     let few : l .w < length (ranksOf n p) = omega (arith, length-listFrom (λ w. countBelow (64 * w) p) (wordsFor n) 0, is-length _ _ (s .pre .0)) in (
       omega arith,
       length-set (l .ranks) (l .w) _ ∙ l .inv .1,
-      ap (λ (t : ℕ). t + ones (word c)) (l .inv .2) ∙ count-turn p (l .w) (word c) (λ j m. in-word (s .args .region .now) (l .w) j m) (fits c),
-      put-next (ranksOf n p) (s .args .ranks .now) (l .ranks) (l .w) (l .before) 0 few (omega (arith, in-ranks (c .before))) (l .inv .3)
+      ⊎-elim (λ q. q .1) (λ q. q .1 ∙ none (q .0 .left)) (c .if1 .came)
+          ∙ ap (λ (t : ℕ). t + ones (word v)) (l .inv .2) ∙ count-turn p (l .w) (word v) (λ j m. in-word (s .args .region .now) (l .w) j m) (fits v),
+      put-next (ranksOf n p) (s .args .ranks .now) (l .ranks) (l .w) (l .before) 0 few (omega (arith, in-ranks (c .before .before))) (l .inv .3)
           (l .inv .2 ∙ ap (λ (x : ℕ). countBelow (64 * x) p) (sym (zero-add (l .w))) ∙ sym (getD-listFrom (λ w. countBelow (64 * w) p) (wordsFor n) 0 (l .w) 0 (omega (arith, is-length _ _ (s .pre .0))))),
     )
 
@@ -91,8 +95,8 @@ fill-ranks-spec =
     loop-holds
     mul-ranks
     slice-write-ranks
-    mul-before
-    shared-slice-read-before
+    mul-bits
+    shared-slice-read-bits
     add-before
     add-w
     loop-less

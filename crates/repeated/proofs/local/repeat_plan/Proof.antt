@@ -26,32 +26,29 @@ abbrev μ-loop : tie.MeasureT-loop
 loop-holds : tie.Need-loop-holds Inv-loop μ-loop
 loop-holds c = record { members = refl; pointers = refl; columns = refl; starts = refl; entries = refl; count = refl }
 
-settle-requires : tie.Need-settle-requires Inv-loop μ-loop
-settle-requires c κs = c .before .before .before .before .before .before .before .before .before .before .before .before .before .pre .0 .inputs
-
-write-plan-requires : tie.Need-write-plan-requires Inv-loop μ-loop
-write-plan-requires c κs =
-    let s = c .before .before .before .before .before .before .before .before .before .before .before .before .before .before .before .before .before .before .before in
-    let same = c .before .before .before .before .before .before .before .loop .inv in
-    (held-same (s .args .n) (s .args .row-word-ptr .now) (s .args .word-indices .now) (s .args .masks .now) (s .args .row-ptr .now) (s .args .col-idx .now) (s .args .region .now) (s .args .nodes .now) (s .args .local-ptr .now) (s .args .local-cols .now) (s .args .source-ptr .now) (s .args .sources .now) _ _ _ _ _ (same .members) (same .pointers) (same .columns) (same .starts) (same .entries) (s .pre .0), c .before .before .before .before .before .settle .ensures)
+plan-again-requires : tie.Need-plan-again-requires Inv-loop μ-loop
+plan-again-requires c κs =
+    let s = c .before .before .before .before .before .before .before .before .before .before .before .before .before .before .before .before .before .before in
+    let same = c .before .before .before .before .before .before .loop .inv in
+    held-same (s .args .n) (s .args .row-word-ptr .now) (s .args .word-indices .now) (s .args .masks .now) (s .args .row-ptr .now) (s .args .col-idx .now) (s .args .region .now) (s .args .nodes .now) (s .args .local-ptr .now) (s .args .local-cols .now) (s .args .source-ptr .now) (s .args .sources .now) _ _ _ _ _ (same .members) (same .pointers) (same .columns) (same .starts) (same .entries) (s .pre .0)
 
 add-t : tie.Need-add-t Inv-loop μ-loop
-add-t c = record { fits = omega (arith, c .before .before .before .before .before .before .before .before .before .before .before .before .before .before .before .before .before .loop-test .taken, c .before .before .before .before .before .before .before .before .before .before .before .before .before .before .before .before .before .before .before .before .before .before .before .before .before .before .before .before .before .before .fits .times) }
+add-t c = record { fits = omega (arith, c .before .before .before .before .before .before .before .before .before .before .before .before .before .before .before .before .loop-test .taken, c .before .before .before .before .before .before .before .before .before .before .before .before .before .before .before .before .before .before .before .before .before .before .before .before .before .before .before .before .before .fits .times) }
 
 loop-less : tie.Need-loop-less Inv-loop μ-loop
-loop-less c = omega (arith, c .before .before .before .before .before .before .before .before .before .before .before .before .before .before .before .before .before .loop-test .taken)
+loop-less c = omega (arith, c .before .before .before .before .before .before .before .before .before .before .before .before .before .before .before .before .loop-test .taken)
 
 loop-again : tie.Need-loop-again Inv-loop μ-loop
 loop-again c =
-    let same = c .before .before .before .before .before .before .before .before .before .before .before .before .before .before .before .before .before .before .loop .inv in
-    let w = c .before .before .before .before .before .before .before .before .before .before .write-plan .ensures in
+    let same = c .before .before .before .before .before .before .before .before .before .before .before .before .before .before .before .before .before .loop .inv in
+    let w = c .before .before .before .before .before .before .before .before .before .before .plan-again .ensures in
     record {
-      members = w .0 ∙ same .members;
-      pointers = w .1 .0 ∙ same .pointers;
-      columns = w .1 .1 .0 ∙ same .columns;
-      starts = w .1 .1 .1 .0 ∙ same .starts;
-      entries = w .1 .1 .1 .1 ∙ same .entries;
-      count = c .before .before .before .before .before .before .before .before .before .before .before .before .before .before .before .before .settle .ensures ∙ sym (c .before .before .before .before .before .before .before .before .before .before .before .before .before .before .before .before .before .before .before .before .before .before .before .before .before .before .before .before .before .before .pre .1);
+      members = w .1 .0 ∙ same .members;
+      pointers = w .1 .1 .0 ∙ same .pointers;
+      columns = w .1 .1 .1 .0 ∙ same .columns;
+      starts = w .1 .1 .1 .1 .0 ∙ same .starts;
+      entries = w .1 .1 .1 .1 .1 ∙ same .entries;
+      count = w .0 ∙ sym (c .before .before .before .before .before .before .before .before .before .before .before .before .before .before .before .before .before .before .before .before .before .before .before .before .before .before .before .before .before .pre .1);
     }
 
 same-length : tie.Need-same-length Inv-loop μ-loop
@@ -81,8 +78,7 @@ repeat-plan-spec =
     Inv-loop
     μ-loop
     loop-holds
-    settle-requires
-    write-plan-requires
+    plan-again-requires
     add-t
     loop-less
     loop-again
