@@ -1,7 +1,7 @@
 -- Which members' rows have a pair, marked one after the other. Assumes nothing.
 use mathlib.Core.Path.{_≡_, refl, sym, ap, _∙_}
 use mathlib.Core.Logic.{_⊎_, inl, inr}
-use mathlib.Core.Bool.{Bool, false, cond, _&&_}
+use mathlib.Core.Bool.{Bool, true, false, cond, _&&_}
 use mathlib.Core.List.{List}
 use Prim.Native.Nat.{ℕ, _+_, _≤_, _<_}
 use native.Mathlib.Omega.{arith}
@@ -36,27 +36,35 @@ module _ (n : ℕ) (region : List ℕ) (s : ℕ → ℕ → Bool) where
       each i (inr h) = sym (past r i (paired i) h)
 
   pub marks-turn : (words words′ : List ℕ) (r r′ pairs : ℕ) → Marks words r → r < n → T (inMask region r) → Next n region (r + 1) r′
-      → pairs ≡ countBelow n (inside (inMask region) s r) → words′ ≡ withNode n words r (ltb 0 pairs) → Marks words′ r′
-  marks-turn words words′ r r′ pairs inv l t next own e =
-      e ∙ mask-cong n (λ i. cond (eqb i r) (ltb 0 pairs) (inMask words i)) (λ i. ltb i r′ && paired i) (λ i h. each i h (eq-or-ne i r) (lt-or-le i r) (lt-or-le i r′))
+      → pairs ≡ countBelow n (inside (inMask region) s r) → words′ ≡ cond (ltb 0 pairs) (withNode n words r true) words → Marks words′ r′
+  marks-turn words words′ r r′ pairs inv l t next own e = e ∙ go (ltb 0 pairs) refl
     where
       before : (i : ℕ) → i < n → inMask words i ≡ (ltb i r && paired i)
       before i h = ap (λ (x : List ℕ). inMask x i) inv ∙ mask-holds n (λ i. ltb i r && paired i) i h
 
-      each : (i : ℕ) → i < n → (i ≡ r) ⊎ (i ≡ r → ⊥) → (i < r) ⊎ (r ≤ i) → (i < r′) ⊎ (r′ ≤ i) → cond (eqb i r) (ltb 0 pairs) (inMask words i) ≡ (ltb i r′ && paired i)
-      each i h (inl q) x y =
-          ap (λ (b : Bool). cond b (ltb 0 pairs) (inMask words i)) (eq-eqb i r q)
-          ∙ ap (λ (k : ℕ). ltb 0 k) own ∙ sym (ap (λ (b : Bool). b && ltb 0 (countBelow n (inside (inMask region) s r))) (T-true (inMask region r) t))
-          ∙ ap paired (sym q) ∙ sym (within r′ i (paired i) (omega (arith, next .since)))
-      each i h (inr q) (inl x) y =
-          ap (λ (b : Bool). cond b (ltb 0 pairs) (inMask words i)) (ne-eqb i r q) ∙ before i h
-          ∙ within r i (paired i) x ∙ sym (within r′ i (paired i) (omega (arith, next .since)))
-      each i h (inr q) (inr x) (inl y) =
-          ap (λ (b : Bool). cond b (ltb 0 pairs) (inMask words i)) (ne-eqb i r q) ∙ before i h
-          ∙ past r i (paired i) x ∙ sym (within r′ i (paired i) y ∙ outside i (r + 1) r′ (next .none) (omega (arith, q)) y)
-      each i h (inr q) (inr x) (inr y) =
-          ap (λ (b : Bool). cond b (ltb 0 pairs) (inMask words i)) (ne-eqb i r q) ∙ before i h
-          ∙ past r i (paired i) x ∙ sym (past r′ i (paired i) y)
+      -- row r has a pair where it has pairs
+      here : ltb 0 pairs ≡ (ltb r r′ && paired r)
+      here =
+          ap (λ (k : ℕ). ltb 0 k) own
+          ∙ sym (within r′ r (paired r) (omega (arith, next .since)) ∙ ap (λ (b : Bool). b && ltb 0 (countBelow n (inside (inMask region) s r))) (T-true (inMask region r) t))
+
+      -- and between r and the next member there is none
+      away : (i : ℕ) → (i ≡ r → ⊥) → (i < r) ⊎ (r ≤ i) → (i < r′) ⊎ (r′ ≤ i) → (ltb i r && paired i) ≡ (ltb i r′ && paired i)
+      away i q (inl x) y = within r i (paired i) x ∙ sym (within r′ i (paired i) (omega (arith, next .since)))
+      away i q (inr x) (inl y) = past r i (paired i) x ∙ sym (within r′ i (paired i) y ∙ outside i (r + 1) r′ (next .none) (omega (arith, q)) y)
+      away i q (inr x) (inr y) = past r i (paired i) x ∙ sym (past r′ i (paired i) y)
+
+      with-it : (i : ℕ) → i < n → ltb 0 pairs ≡ true → (i ≡ r) ⊎ (i ≡ r → ⊥) → cond (eqb i r) true (inMask words i) ≡ (ltb i r′ && paired i)
+      with-it i h b (inl q) = ap (λ (x : Bool). cond x true (inMask words i)) (eq-eqb i r q) ∙ sym b ∙ here ∙ ap (λ (k : ℕ). ltb k r′ && paired k) (sym q)
+      with-it i h b (inr q) = ap (λ (x : Bool). cond x true (inMask words i)) (ne-eqb i r q) ∙ before i h ∙ away i q (lt-or-le i r) (lt-or-le i r′)
+
+      without : (i : ℕ) → ltb 0 pairs ≡ false → (i ≡ r) ⊎ (i ≡ r → ⊥) → (ltb i r && paired i) ≡ (ltb i r′ && paired i)
+      without i b (inl q) = past r i (paired i) (omega arith) ∙ sym b ∙ here ∙ ap (λ (k : ℕ). ltb k r′ && paired k) (sym q)
+      without i b (inr q) = away i q (lt-or-le i r) (lt-or-le i r′)
+
+      go : (b : Bool) → ltb 0 pairs ≡ b → cond b (withNode n words r true) words ≡ maskWords n (λ i. ltb i r′ && paired i)
+      go true b = mask-cong n (λ i. cond (eqb i r) true (inMask words i)) (λ i. ltb i r′ && paired i) (λ i h. with-it i h b (eq-or-ne i r))
+      go false b = inv ∙ mask-cong n (λ i. ltb i r && paired i) (λ i. ltb i r′ && paired i) (λ i h. without i b (eq-or-ne i r))
 
   pub marks-last : (words : List ℕ) (r : ℕ) → Marks words r → n ≤ r → words ≡ maskWords n paired
   marks-last words r inv h = inv ∙ mask-cong n (λ i. ltb i r && paired i) paired (λ i l. within r i (paired i) (omega arith))

@@ -3,6 +3,7 @@
 // that is empty before and after each row. Either way a row costs its words and its entries.
 use crate::Binding;
 use crate::Counts;
+use crate::MembersRun;
 use crate::RowBinding;
 use crate::RowCounts;
 use crate::RowRun;
@@ -10,15 +11,16 @@ use crate::Run;
 use base::Checked;
 use word::AbtmTopologyWord;
 ghost use mathlib.Core.Path.{_≡_};
-ghost use mathlib.Core.Bool.{true, false, not, _&&_, _||_};
+ghost use mathlib.Core.Bool.{true, false, not, cond, _&&_, _||_};
 ghost use Prim.Native.Nat.{ℕ, _+_, _-_, _≤_, _<_};
-ghost use lib.Dec.{T};
+ghost use lib.Dec.{T, ltb};
 ghost use lib.ListN.{length, getD};
 ghost use lib.Seq.{slice};
 ghost use Rattle.base.specs.Checks.{entryLimit, after};
 ghost use Rattle.base.specs.Lists.{isIn};
 ghost use Rattle.base.specs.Sets.{anyBelow, countBelow};
 ghost use Rattle.mask.specs.Mask.{inMask, maskWords, IsMask};
+ghost use Rattle.mask.specs.Answers.{withNode};
 ghost use Rattle.csr32.specs.Matrix.{stored, IsMatrix};
 ghost use Rattle.side.specs.Side.{sideHolds};
 ghost use Rattle.side.specs.Check.{IsSide};
@@ -348,6 +350,74 @@ fn settle_row(
     }
 }
 
+// Row r is marked where it has a pair: by a bit or none, without a branch that depends on it.
+fn mark_row(n: usize, r: usize, pairs: usize, paired: &mut [u64])
+    requires { ⌜ IsMask n (now paired) × (r < n) ⌝ }
+    ensures { λ _. ⌜ now (paired .exit) ≡ cond (ltb 0 pairs) (withNode n (now (paired .entry)) r true) (now (paired .entry)) ⌝ }
+{
+    let mut bit: u64 = 0;
+    if pairs > 0 {
+        bit = 1u64 << (r % AbtmTopologyWord::BITS);
+    }
+    paired[r / AbtmTopologyWord::BITS] |= bit;
+}
+
+// The members' rows in order as long as each one's words are its entries, what they hold, and which of them have a pair. A no says nothing.
+fn follow_members(
+    n: usize,
+    row_word_ptr: &[u32],
+    word_indices: &[u32],
+    masks: &[u64],
+    row_ptr: &[u32],
+    col_idx: &[u32],
+    region: &[u64],
+    paired: &mut [u64],
+) -> MembersRun
+    requires { ⌜ IsSide n n (now «row_word_ptr») (now «word_indices») (now masks) × IsMatrix n n (now «row_ptr») (now «col_idx») × IsMask n (now region) × (now paired ≡ maskWords n (λ i. false)) ⌝ }
+    ensures { λ k. ⌜ (k .same ≡ true → (bindingCheck n (inMask (now (region .entry))) (sideHolds (now («row_word_ptr» .entry)) (now («word_indices» .entry)) (now (masks .entry))) (stored (now («row_ptr» .entry)) (now («col_idx» .entry))) ≡ Checked.Accepted) × (k .counts ≡ countsOf n (inMask (now (region .entry))) (sideHolds (now («row_word_ptr» .entry)) (now («word_indices» .entry)) (now (masks .entry))) (now («row_ptr» .entry)) (now («col_idx» .entry)))) ⌝ }
+    ensures marks { λ k. ⌜ (k .same ≡ true → now (paired .exit) ≡ maskWords n (hasPair n (inMask (now (region .entry))) (sideHolds (now («row_word_ptr» .entry)) (now («word_indices» .entry)) (now (masks .entry))))) ⌝ }
+{
+    let mut members: usize = 0;
+    let mut pairs: usize = 0;
+    let mut sources: usize = 0;
+    let mut r = mask::inner::next_member(n, region, 0);
+    while r < n {
+        let run = follow(
+            n,
+            row_word_ptr,
+            word_indices,
+            masks,
+            row_ptr,
+            col_idx,
+            region,
+            r,
+        );
+        if !run.same {
+            return MembersRun {
+                same: false,
+                counts: Counts {
+                    members,
+                    pairs,
+                    sources,
+                },
+            };
+        }
+        members += 1;
+        pairs += run.pairs;
+        sources += run.sources;
+        mark_row(n, r, run.pairs, paired);
+        r = mask::inner::next_member(n, region, r + 1);
+    }
+    MembersRun {
+        same: true,
+        counts: Counts {
+            members,
+            pairs,
+            sources,
+        },
+    }
+}
+
 // The members' rows in order, what they hold, and which of them have a pair.
 fn settle_members(
     n: usize,
@@ -387,7 +457,7 @@ fn settle_members(
                 members += 1;
                 pairs += row.pairs;
                 sources += row.sources;
-                mask::inner::put(n, paired, r, row.pairs > 0);
+                mark_row(n, r, row.pairs, paired);
                 r = mask::inner::next_member(n, region, r + 1);
             }
         }
@@ -399,9 +469,8 @@ fn settle_members(
     })
 }
 
-// 23 and 24 by local row, what the rows hold, and, where all of them bind, the mask of those that have a pair: the others need no second look. The
-// mask is empty at first. 16,384 words hold the 1,048,576 nodes that a matrix has at most.
-pub fn bind_rows(
+// The same with an empty mask of its own for the rows that need it: 16,384 words hold the 1,048,576 nodes that a matrix has at most.
+fn settle(
     n: usize,
     row_word_ptr: &[u32],
     word_indices: &[u32],
@@ -427,6 +496,49 @@ pub fn bind_rows(
         region,
         paired,
         &mut seen[0..need],
+    )
+}
+
+// 23 and 24 by local row, what the rows hold, and, where all of them bind, the mask of those that have a pair: the others need no second look. The
+// mask is empty at first. Where each row's words are its entries nothing else is needed; otherwise all is settled anew.
+pub fn bind_rows(
+    n: usize,
+    row_word_ptr: &[u32],
+    word_indices: &[u32],
+    masks: &[u64],
+    row_ptr: &[u32],
+    col_idx: &[u32],
+    region: &[u64],
+    paired: &mut [u64],
+) -> Binding
+    requires { ⌜ IsSide n n (now «row_word_ptr») (now «word_indices») (now masks) × IsMatrix n n (now «row_ptr») (now «col_idx») × IsMask n (now region) × (now paired ≡ maskWords n (λ i. false)) ⌝ }
+    ensures { λ b. ⌜ b ≡ after (bindingCheck n (inMask (now (region .entry))) (sideHolds (now («row_word_ptr» .entry)) (now («word_indices» .entry)) (now (masks .entry))) (stored (now («row_ptr» .entry)) (now («col_idx» .entry)))) (Binding.Bound (countsOf n (inMask (now (region .entry))) (sideHolds (now («row_word_ptr» .entry)) (now («word_indices» .entry)) (now (masks .entry))) (now («row_ptr» .entry)) (now («col_idx» .entry)))) Binding.Refused ⌝ }
+    ensures marks { λ _. ⌜ (bindingCheck n (inMask (now (region .entry))) (sideHolds (now («row_word_ptr» .entry)) (now («word_indices» .entry)) (now (masks .entry))) (stored (now («row_ptr» .entry)) (now («col_idx» .entry))) ≡ Checked.Accepted → now (paired .exit) ≡ maskWords n (hasPair n (inMask (now (region .entry))) (sideHolds (now («row_word_ptr» .entry)) (now («word_indices» .entry)) (now (masks .entry))))) ⌝ }
+{
+    let run = follow_members(
+        n,
+        row_word_ptr,
+        word_indices,
+        masks,
+        row_ptr,
+        col_idx,
+        region,
+        paired,
+    );
+    if run.same {
+        let counts = run.counts;
+        return Binding::Bound(counts);
+    }
+    mask::inner::clear(n, paired);
+    settle(
+        n,
+        row_word_ptr,
+        word_indices,
+        masks,
+        row_ptr,
+        col_idx,
+        region,
+        paired,
     )
 }
 

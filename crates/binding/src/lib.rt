@@ -39,6 +39,12 @@ pub struct Counts {
     pub sources: usize,
 }
 
+// The same, and whether each row's words were found to be its entries. Where they were not, nothing is said.
+pub struct MembersRun {
+    pub same: bool,
+    pub counts: Counts,
+}
+
 pub enum Binding {
     Bound(Counts),
     Refused(Refusal),

@@ -75,30 +75,30 @@ add-sources c =
     let l = c .before .before .before .before .before .before .before .before .before .before .loop in
     omega (arith, sources-fit (s .args .n) (s .args .region .now) (s .args .row-word-ptr .now) (s .args .word-indices .now) (s .args .masks .now) (s .args .row-ptr .now) (s .args .col-idx .now) (l .seen) (l .members) (l .pairs) (l .sources) (l .r) (l .inv .0) (c .before .before .before .before .before .before .before .before .before .loop-test .taken) _ (c .before .before .before .before .before .before .before .settle-row .ensures .0) _ (c .before .before .before .row .given .1) (s .pre .1))
 
-put-requires : tie.Need-put-requires Inv-loop μ-loop
-put-requires c κs = (is-of _ _ _ (c .before .before .before .before .before .before .before .before .before .before .before .before .before .before .before .before .before .before .before .before .before .before .pre .2 .short) (c .before .before .before .before .before .before .before .before .before .before .before .before .loop .inv .1), c .before .before .before .before .before .before .before .before .before .before .before .loop-test .taken)
+mark-row-requires : tie.Need-mark-row-requires Inv-loop μ-loop
+mark-row-requires c κs = (is-of _ _ _ (c .before .before .before .before .before .before .before .before .before .before .before .before .before .before .before .before .before .before .before .before .before .pre .2 .short) (c .before .before .before .before .before .before .before .before .before .before .before .loop .inv .1), c .before .before .before .before .before .before .before .before .before .before .loop-test .taken)
 
 add-next-member : tie.Need-add-next-member Inv-loop μ-loop
-add-next-member c = omega (arith, c .before .before .before .before .before .before .before .before .before .before .before .before .before .before .loop-test .taken, c .before .before .before .before .before .before .before .before .before .before .before .before .before .before .before .before .before .before .before .before .before .before .before .before .before .pre .2 .short)
+add-next-member c = omega (arith, c .before .before .before .before .before .before .before .before .before .before .before .before .before .loop-test .taken, c .before .before .before .before .before .before .before .before .before .before .before .before .before .before .before .before .before .before .before .before .before .before .before .before .pre .2 .short)
 
 next-member-requires-2 : tie.Need-next-member-requires-2 Inv-loop μ-loop
-next-member-requires-2 c κs = (c .before .before .before .before .before .before .before .before .before .before .before .before .before .before .before .before .before .before .before .before .before .before .before .before .before .pre .2, omega (arith, c .before .before .before .before .before .before .before .before .before .before .before .before .before .before .loop-test .taken))
+next-member-requires-2 c κs = (c .before .before .before .before .before .before .before .before .before .before .before .before .before .before .before .before .before .before .before .before .before .before .before .before .pre .2, omega (arith, c .before .before .before .before .before .before .before .before .before .before .before .before .before .loop-test .taken))
 
 -- the member after r
-next : (c : tie.After-next-member2 Inv-loop μ-loop) → Next (c .before .before .before .before .before .before .before .before .before .before .before .before .before .before .before .before .before .before .before .before .before .before .before .before .before .before .args .n) (c .before .before .before .before .before .before .before .before .before .before .before .before .before .before .before .before .before .before .before .before .before .before .before .before .before .before .args .region .now) (c .before .before .before .before .before .before .before .before .before .before .before .before .before .before .before .before .loop .r + 1) (c .next-member2 .result)
-next c = next-is _ _ _ _ (omega (arith, c .before .before .before .before .before .before .before .before .before .before .before .before .before .before .before .loop-test .taken)) (c .next-member2 .ensures)
+next : (c : tie.After-next-member2 Inv-loop μ-loop) → Next (c .before .before .before .before .before .before .before .before .before .before .before .before .before .before .before .before .before .before .before .before .before .before .before .before .before .args .n) (c .before .before .before .before .before .before .before .before .before .before .before .before .before .before .before .before .before .before .before .before .before .before .before .before .before .args .region .now) (c .before .before .before .before .before .before .before .before .before .before .before .before .before .before .before .loop .r + 1) (c .next-member2 .result)
+next c = next-is _ _ _ _ (omega (arith, c .before .before .before .before .before .before .before .before .before .before .before .before .before .before .loop-test .taken)) (c .next-member2 .ensures)
 
 loop-less : tie.Need-loop-less Inv-loop μ-loop
-loop-less c = omega (arith, next c .since, c .before .before .before .before .before .before .before .before .before .before .before .before .before .before .before .loop-test .taken)
+loop-less c = omega (arith, next c .since, c .before .before .before .before .before .before .before .before .before .before .before .before .before .before .loop-test .taken)
 
 loop-again : tie.Need-loop-again Inv-loop μ-loop
 loop-again c =
-    let s = c .before .before .before .before .before .before .before .before .before .before .before .before .before .before .before .before .before .before .before .before .before .before .before .before .before .before in
-    let l = c .before .before .before .before .before .before .before .before .before .before .before .before .before .before .before .before .loop in
-    let test = c .before .before .before .before .before .before .before .before .before .before .before .before .before .before .before .loop-test .taken in
-    let told = c .before .before .before .before .before .before .before .before .before .before .before .before .before .settle-row .ensures .0 in (
-      settle-turn (s .args .n) (s .args .region .now) (s .args .row-word-ptr .now) (s .args .word-indices .now) (s .args .masks .now) (s .args .row-ptr .now) (s .args .col-idx .now) (l .seen) (l .members) (l .pairs) (l .sources) (l .r) (l .inv .0) test _ told _ (c .before .before .before .before .before .before .before .before .before .row .given .1) _ _ (next c) (c .before .before .before .before .before .before .before .before .before .before .before .before .before .settle-row .ensures .1),
-      marks-turn (s .args .n) (s .args .region .now) (sideHolds (s .args .row-word-ptr .now) (s .args .word-indices .now) (s .args .masks .now)) (l .paired) _ (l .r) _ _ (l .inv .1) test (l .inv .0 .checked .member test) (next c) (row-pairs (s .args .n) (s .args .region .now) (s .args .row-word-ptr .now) (s .args .word-indices .now) (s .args .masks .now) (s .args .row-ptr .now) (s .args .col-idx .now) (l .seen) (l .members) (l .pairs) (l .sources) (l .r) (l .inv .0) test _ told _ (c .before .before .before .before .before .before .before .before .before .row .given .1)) (c .before .before .before .put .ensures),
+    let s = c .before .before .before .before .before .before .before .before .before .before .before .before .before .before .before .before .before .before .before .before .before .before .before .before .before in
+    let l = c .before .before .before .before .before .before .before .before .before .before .before .before .before .before .before .loop in
+    let test = c .before .before .before .before .before .before .before .before .before .before .before .before .before .before .loop-test .taken in
+    let told = c .before .before .before .before .before .before .before .before .before .before .before .before .settle-row .ensures .0 in (
+      settle-turn (s .args .n) (s .args .region .now) (s .args .row-word-ptr .now) (s .args .word-indices .now) (s .args .masks .now) (s .args .row-ptr .now) (s .args .col-idx .now) (l .seen) (l .members) (l .pairs) (l .sources) (l .r) (l .inv .0) test _ told _ (c .before .before .before .before .before .before .before .before .row .given .1) _ _ (next c) (c .before .before .before .before .before .before .before .before .before .before .before .before .settle-row .ensures .1),
+      marks-turn (s .args .n) (s .args .region .now) (sideHolds (s .args .row-word-ptr .now) (s .args .word-indices .now) (s .args .masks .now)) (l .paired) _ (l .r) _ _ (l .inv .1) test (l .inv .0 .checked .member test) (next c) (row-pairs (s .args .n) (s .args .region .now) (s .args .row-word-ptr .now) (s .args .word-indices .now) (s .args .masks .now) (s .args .row-ptr .now) (s .args .col-idx .now) (l .seen) (l .members) (l .pairs) (l .sources) (l .r) (l .inv .0) test _ told _ (c .before .before .before .before .before .before .before .before .row .given .1)) (c .before .before .before .mark-row .ensures),
     )
 
 same-length-3 : tie.Need-same-length-3 Inv-loop μ-loop
@@ -130,7 +130,7 @@ settle-members-spec =
     add-members
     add-pairs
     add-sources
-    put-requires
+    mark-row-requires
     add-next-member
     next-member-requires-2
     loop-less
