@@ -47,6 +47,11 @@ and-left a b e = T-true a (and-l a b (T-of (a && b) e))
 pub and-right : (a b : Bool) → a && b ≡ true → b ≡ true
 and-right a b e = T-true b (and-r a b (T-of (a && b) e))
 
+-- what follows `&&` counts only where the first holds
+pub and-under : (a b d : Bool) → (T a → b ≡ d) → (a && b) ≡ (a && d)
+and-under true b d h = h tt
+and-under false b d h = refl
+
 pub or-l : (a b : Bool) → T a → T (a || b)
 or-l true b h = tt
 or-l false b h = absurd h

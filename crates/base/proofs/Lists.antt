@@ -7,12 +7,12 @@ use Prim.Native.Nat.{ℕ, zero, suc, _+_, _-_, _≤_, _<_}
 use native.Mathlib.Nat.{zero-add, add-zero, le-refl, le-of-suc-le-suc, not-suc-le-zero, le-of-lt, sub-zero, zero-sub, suc-sub-suc}
 use native.Mathlib.Numerals.{add-one}
 use native.Mathlib.Omega.{arith}
-use borrow.Author.Tests.{eq-eqb, eqb-true, leb-true, le-leb}
-use lib.Dec.{T, leb, eqb, eqb→eq}
+use borrow.Author.Tests.{eq-eqb, eqb-true}
+use lib.Dec.{T, eqb, eqb→eq}
 use lib.ListN.{length, getD, set, take, drop, replicate, List·getD-append, drop-of-length-le, length-append, length-take, length-drop, length-replicate, take-append-drop, replicate-append-replicate}
-use lib.Seq.{slice, drop-cons, take-suc, take-take, length-take-le, set-at, append-snoc, take-all, drop-length, getD-drop, getD-take, length-slice, slice-empty, drop-append-le, drop-append-add, drop-drop, ext-getD, take-append-seam, take-nil}
-use Rattle.base.specs.Lists.{every, pairwise, rising, isIn, sameList, listFrom, written, over, placed, overZeros, zeroed}
-use Rattle.base.proofs.Bools.{and-left, and-right, or-l, or-r, or-e, or-false, T-true, T-false, T-of, both-ways, lt-or-le}
+use lib.Seq.{slice, getD-append-add, drop-cons, take-suc, take-take, length-take-le, set-at, append-snoc, take-all, drop-length, getD-drop, getD-take, length-slice, slice-empty, drop-append-le, drop-append-add, drop-drop, ext-getD, take-append-seam, take-nil}
+use Rattle.base.specs.Lists.{every, pairwise, isIn, sameList, listFrom, written, over, placed, overZeros, zeroed}
+use Rattle.base.proofs.Bools.{bool-ext, and-left, and-right, or-l, or-r, or-e, or-false, T-true, T-false, T-of, both-ways, lt-or-le}
 
 -- ---- a loop that tests a list from the front: the test of the whole list is the test of what is left of it
 
@@ -157,31 +157,6 @@ part-slice (suc f) (suc t) (x ∷ l) = ap (λ (n : ℕ). take n (drop f l)) (suc
 pub getD-slice : (f t : ℕ) (l : List ℕ) (i : ℕ) → f + i < t → getD (slice f t l) i 0 ≡ getD l (f + i) 0
 getD-slice f t l i h = getD-drop f (take t l) i 0 ∙ getD-take t l (f + i) 0 h
 
--- a part that rises: its elements, and what is left of it from a later place on
-pub slice-rises : (f t : ℕ) (l : List ℕ) → t ≤ length l → rising (slice f t l) ≡ true → (i j : ℕ) → f ≤ i → i ≤ j → j < t → getD l i 0 ≤ getD l j 0
-slice-rises f t l h e i j a b u =
-    let long : length (slice f t l) ≡ t - f = length-slice f t l h in
-    let up : getD (slice f t l) (i - f) 0 ≤ getD (slice f t l) (j - f) 0 =
-    rise-to (slice f t l) (length (slice f t l) - 1) (λ r k. leb-true _ _ (pairwise-at leb 0 (slice f t l) r e (omega arith))) (i - f) (j - f) (omega arith) (omega arith) in
-    let ei : f + (i - f) ≡ i = omega arith in
-    let ej : f + (j - f) ≡ j = omega arith in
-    omega (
-      arith,
-      up,
-      getD-slice f t l (i - f) (omega arith) ∙ ap (λ (n : ℕ). getD l n 0) ei,
-      getD-slice f t l (j - f) (omega arith) ∙ ap (λ (n : ℕ). getD l n 0) ej,
-    )
-
-pub slice-later : (f e t : ℕ) (l : List ℕ) → t ≤ length l → f ≤ e → rising (slice f t l) ≡ true → rising (slice e t l) ≡ true
-slice-later f e t l h a r = pairwise-i leb 0 (slice e t l) each
-  where
-    each : (i : ℕ) → i + 1 < length (slice e t l) → leb (getD (slice e t l) i 0) (getD (slice e t l) (i + 1) 0) ≡ true
-    each i k =
-        let u : e + (i + 1) < t = omega (arith, length-slice e t l h) in
-        let up : getD (slice e t l) i 0 ≤ getD (slice e t l) (i + 1) 0 =
-        omega (arith, slice-rises f t l h r (e + i) (e + (i + 1)) (omega arith) (omega arith) u, getD-slice e t l i (omega arith), getD-slice e t l (i + 1) u) in
-        le-leb (getD (slice e t l) i 0) (getD (slice e t l) (i + 1) 0) up
-
 pub in-empty : (c : ℕ) (t : ℕ) (l : List ℕ) → isIn c (slice t t l) ≡ false
 unfolding isIn
 in-empty c t l = ap (isIn c) (slice-empty t l)
@@ -195,6 +170,28 @@ in-slice-where c f t l h m =
     let r : (i : ℕ) × (i < length (slice f t l)) × (getD (slice f t l) i 0 ≡ c) = in-where c (slice f t l) m in
     let b : f + r .0 < t = omega (arith, length-slice f t l h) in
     (f + r .0, omega arith, b, sym (getD-slice f t l (r .0) b) ∙ r .2)
+
+-- a part in two
+pub in-parts : (c f m t : ℕ) (l : List ℕ) → f ≤ m → m ≤ t → t ≤ length l → isIn c (slice f t l) ≡ (isIn c (slice f m l) || isIn c (slice m t l))
+in-parts c f m t l h u v = bool-ext (isIn c (slice f t l)) (isIn c (slice f m l) || isIn c (slice m t l)) there back
+  where
+    there : T (isIn c (slice f t l)) → T (isIn c (slice f m l) || isIn c (slice m t l))
+    there x = let r : (k : ℕ) × (f ≤ k) × (k < t) × (getD l k 0 ≡ c) = in-slice-where c f t l v x in part r (lt-or-le (r .0) m)
+      where
+        part : (r : (k : ℕ) × (f ≤ k) × (k < t) × (getD l k 0 ≡ c)) → (r .0 < m) ⊎ (m ≤ r .0) → T (isIn c (slice f m l) || isIn c (slice m t l))
+        part r (inl a) = or-l (isIn c (slice f m l)) (isIn c (slice m t l)) (in-slice-at c f m l (r .0) (omega arith) (r .1) a (r .3))
+        part r (inr a) = or-r (isIn c (slice f m l)) (isIn c (slice m t l)) (in-slice-at c m t l (r .0) v a (r .2) (r .3))
+
+    back : T (isIn c (slice f m l) || isIn c (slice m t l)) → T (isIn c (slice f t l))
+    back x = part (or-e (isIn c (slice f m l)) (isIn c (slice m t l)) x)
+      where
+        part : T (isIn c (slice f m l)) ⊎ T (isIn c (slice m t l)) → T (isIn c (slice f t l))
+        part (inl a) =
+            let r : (k : ℕ) × (f ≤ k) × (k < m) × (getD l k 0 ≡ c) = in-slice-where c f m l (omega arith) a in
+            in-slice-at c f t l (r .0) v (r .1) (omega (arith, r .2)) (r .3)
+        part (inr a) =
+            let r : (k : ℕ) × (m ≤ k) × (k < t) × (getD l k 0 ≡ c) = in-slice-where c m t l v a in
+            in-slice-at c f t l (r .0) v (omega (arith, r .1)) (r .2) (r .3)
 
 -- a part with one element more, behind it or before it
 pub in-behind : (c f t : ℕ) (l : List ℕ) → f ≤ t → t < length l → isIn c (slice f (t + 1) l) ≡ (isIn c (slice f t l) || eqb (getD l t 0) c)
@@ -405,6 +402,9 @@ module _ {A : Type 0} where
 
 pub over-at : {A : Type 0} (X l : List A) (k : ℕ) (d : A) → k < length X → getD (over X l) k d ≡ getD X k d
 over-at X l k d h = List·getD-append X (drop (length X) l) d k h
+
+pub over-beyond : {A : Type 0} (X l : List A) (k : ℕ) (d : A) → getD (over X l) (length X + k) d ≡ getD l (length X + k) d
+over-beyond X l k d = getD-append-add X (drop (length X) l) k d ∙ getD-drop (length X) l k d
 
 pub over-room : {A : Type 0} (X l : List A) → length X ≤ length (over X l)
 over-room X l = omega (arith, length-append X (drop (length X) l))

@@ -1,12 +1,12 @@
 -- The faults of one row, from the mask that its entries filled, and of the members' rows one after the other. Assumes nothing.
 use mathlib.Core.Path.{_≡_, refl, sym, ap, _∙_, subst}
 use mathlib.Core.Bool.{Bool, true, false, not, _&&_, _||_, and-assoc}
-use mathlib.Core.List.{List, _++_}
-use Prim.Native.Nat.{ℕ, _+_, _-_, _≤_, _<_}
+use mathlib.Core.List.{List}
+use Prim.Native.Nat.{ℕ, _+_, _≤_, _<_}
 use native.Mathlib.Omega.{arith}
 use lib.Dec.{T, T-not}
-use lib.ListN.{length, getD, take, replicate, length-replicate, replicate-append-replicate}
-use lib.Seq.{slice, take-at}
+use lib.ListN.{getD}
+use lib.Seq.{slice}
 use Rattle.base.specs.Checks.{sideLimit, plain, checksBelow}
 use Rattle.base.specs.Lists.{isIn}
 use Rattle.base.specs.Sets.{anyBelow, countBelow}
@@ -16,8 +16,8 @@ use Rattle.base.specs.declared.Checked.the-variants.{Accepted, Refused}
 use Rattle.base.proofs.Bools.{and-l, and-r}
 use Rattle.base.proofs.Checks.{pass, stop, last-pass, last-stop, checks-none, checks-next, checks-stop}
 use Rattle.base.proofs.Sets.{any-cong, any-none, count-member, getD-count}
-use Rattle.mask.specs.Mask.{inMask, wordsFor, maskWords, IsMask}
-use Rattle.mask.proofs.Masks.{mask-length, mask-holds, mask-none, is-of}
+use Rattle.mask.specs.Mask.{inMask, maskWords, IsMask}
+use Rattle.mask.proofs.Masks.{mask-holds, is-of}
 use Rattle.mask.proofs.Nexts.{Next}
 use Rattle.csr32.specs.Matrix.{stored, IsMatrix}
 use Rattle.csr32.proofs.Matrix.{ptr-le}
@@ -135,20 +135,3 @@ module _ (n : ℕ) (region : List ℕ) (s entries : ℕ → ℕ → Bool) where
   pub check-last : (seen : List ℕ) (r : ℕ) → Checking seen r → n ≤ r → Accepted ≡ bindingCheck n p s entries
   unfolding bindingCheck
   check-last seen r inv l = let e : r ≡ n = omega (arith, inv .within) in sym (ap (λ (k : ℕ). checksBelow (countBelow k p) check) (sym e) ∙ inv .passed)
-
--- two masks of the same nodes have one length
-pub masks-length : (n : ℕ) (p q : ℕ → Bool) (a b : List ℕ) → a ≡ maskWords n p → b ≡ maskWords n q → length a ≡ length b
-masks-length n p q a b e f = ap length e ∙ mask-length n p ∙ sym (mask-length n q) ∙ ap length (sym f)
-
--- zeros to spare: the first of them are the empty mask
-pub zeros-empty : (n m need : ℕ) → need ≡ wordsFor n → need ≤ m → take need (replicate {A = ℕ} m 0) ≡ maskWords n (λ i. false)
-zeros-empty n m need e h =
-    let s : need + (m - need) ≡ m = omega arith in
-    ap (λ (k : ℕ). take need (replicate {A = ℕ} k 0)) (sym s)
-    ∙ ap (take need) (sym (replicate-append-replicate need (m - need) 0))
-    ∙ take-at (replicate {A = ℕ} need 0) (replicate {A = ℕ} (m - need) 0) need (length-replicate {A = ℕ} need 0)
-    ∙ ap (λ (k : ℕ). replicate {A = ℕ} k 0) e ∙ mask-none n
-
--- and what is then written over them is found there
-pub mask-front : (n : ℕ) (p : ℕ → Bool) (words rest : List ℕ) → words ≡ maskWords n p → take (wordsFor n) (words ++ rest) ≡ maskWords n p
-mask-front n p words rest e = take-at words rest (wordsFor n) (ap length e ∙ mask-length n p) ∙ e

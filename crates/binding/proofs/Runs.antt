@@ -8,17 +8,17 @@ use Prim.Native.Nat.{ℕ, zero, suc, _+_, _-_, _*_, _/_, _%_, _^_, _≤_, _<_}
 use native.Mathlib.Nat.{mod-lt, zero-lt-suc, add-zero, zero-add}
 use native.Mathlib.Omega.{arith}
 use borrow.Author.Tests.{eq-eqb, ne-eqb}
-use lib.Bits.{bitAnd, bitOr, bitXor, or-add-and, xor-add-and, and-le-l, and-le-r}
+use lib.Bits.{bitAnd, bitOr, bitXor}
 use lib.Dec.{T, eqb}
 use lib.ListN.{length, getD}
 use lib.Seq.{slice}
 use Rattle.base.specs.Lists.{isIn}
 use Rattle.base.specs.Sets.{one-if, countBelow}
-use Rattle.base.proofs.Bools.{bool-ext, T-false, not-T-of, or-l, or-r, or-e, or-false, lt-or-le, eq-or-ne}
-use Rattle.base.proofs.Lists.{in-empty, in-behind, in-slice-at, in-slice-where}
+use Rattle.base.proofs.Bools.{T-false, not-T-of, or-false, eq-or-ne}
+use Rattle.base.proofs.Lists.{in-empty, in-behind, in-parts, in-slice-where}
 use Rattle.base.proofs.Sets.{sum-cong, sum-add, sum-none, sum-place, count-cong, count-le}
 use Rattle.word.specs.Bits.{bitAt}
-use Rattle.word.proofs.Bits.{one-shl, zero-bit, bit-and, bit-or, bit-not, bit-pow}
+use Rattle.word.proofs.Bits.{xor-same, or-none, one-shl, zero-bit, bit-and, bit-or, bit-not, bit-pow}
 use Rattle.word.proofs.Words.{bit-word, word-lt, word-ext, word-none, word-add-same}
 use Rattle.mask.specs.Mask.{inMask, IsMask}
 use Rattle.csr32.specs.Matrix.{stored}
@@ -30,28 +30,6 @@ use Rattle.pattern.proofs.Rows.{keptIn, kept-none, kept-next, kept-le, row-kept
 use Rattle.binding.specs.Steps.{RunOf, rowSources}
 use Rattle.binding.specs.declared.Run.{Run}
 use Rattle.binding.proofs.Sources.{counted, count-start, count-next, count-more}
-
--- a slice in two parts
-in-parts : (c f m t : ℕ) (l : List ℕ) → f ≤ m → m ≤ t → t ≤ length l → isIn c (slice f t l) ≡ (isIn c (slice f m l) || isIn c (slice m t l))
-in-parts c f m t l h u v = bool-ext (isIn c (slice f t l)) (isIn c (slice f m l) || isIn c (slice m t l)) there back
-  where
-    there : T (isIn c (slice f t l)) → T (isIn c (slice f m l) || isIn c (slice m t l))
-    there x = let r : (k : ℕ) × (f ≤ k) × (k < t) × (getD l k 0 ≡ c) = in-slice-where c f t l v x in part r (lt-or-le (r .0) m)
-      where
-        part : (r : (k : ℕ) × (f ≤ k) × (k < t) × (getD l k 0 ≡ c)) → (r .0 < m) ⊎ (m ≤ r .0) → T (isIn c (slice f m l) || isIn c (slice m t l))
-        part r (inl a) = or-l (isIn c (slice f m l)) (isIn c (slice m t l)) (in-slice-at c f m l (r .0) (omega arith) (r .1) a (r .3))
-        part r (inr a) = or-r (isIn c (slice f m l)) (isIn c (slice m t l)) (in-slice-at c m t l (r .0) v a (r .2) (r .3))
-
-    back : T (isIn c (slice f m l) || isIn c (slice m t l)) → T (isIn c (slice f t l))
-    back x = part (or-e (isIn c (slice f m l)) (isIn c (slice m t l)) x)
-      where
-        part : T (isIn c (slice f m l)) ⊎ T (isIn c (slice m t l)) → T (isIn c (slice f t l))
-        part (inl a) =
-            let r : (k : ℕ) × (f ≤ k) × (k < m) × (getD l k 0 ≡ c) = in-slice-where c f m l (omega arith) a in
-            in-slice-at c f t l (r .0) v (r .1) (omega (arith, r .2)) (r .3)
-        part (inr a) =
-            let r : (k : ℕ) × (m ≤ k) × (k < t) × (getD l k 0 ≡ c) = in-slice-where c m t l v a in
-            in-slice-at c f t l (r .0) v (omega (arith, r .1)) (r .2) (r .3)
 
 -- ---- bits counted without a branch
 
@@ -255,12 +233,6 @@ module _ (idx masks cols : List ℕ) (from first : ℕ) where
 
 -- ---- what those words and entries hold inside the region
 
-alike-of : (a b : ℕ) → bitXor a b ≡ 0 → a ≡ b
-alike-of a b z = omega (arith, xor-add-and a b, and-le-l a b, and-le-r a b)
-
-none-of : (a b : ℕ) → bitOr a b ≡ 0 → (a ≡ 0) × (b ≡ 0)
-none-of a b z = (omega (arith, or-add-and a b, and-le-l a b, and-le-r a b), omega (arith, or-add-and a b, and-le-l a b, and-le-r a b))
-
 module _ (idx masks region cols : List ℕ) (from first : ℕ) where
   -- entry i has its column inside
   abbrev held : ℕ → Bool
@@ -352,10 +324,10 @@ module _ (idx masks region cols : List ℕ) (from first : ℕ) where
       where
         turn : bitOr other differs ≡ 0 → Following to end (k + 1) (e + 1) (sources + one) (sources + one)
         turn z =
-            let o = none-of other differs z in
-            let d = none-of (bitXor (getD idx k 0) (column / 64)) (bitXor (getD masks k 0) ((1 * 2 ^ (column % 64)) % 2 ^ 64)) (o .1) in
-            let w : getD idx k 0 ≡ column / 64 = alike-of _ _ (d .0) in
-            let m : getD masks k 0 ≡ (1 * 2 ^ (column % 64)) % 2 ^ 64 = alike-of _ _ (d .1) in
+            let o = or-none other differs z in
+            let d = or-none (bitXor (getD idx k 0) (column / 64)) (bitXor (getD masks k 0) ((1 * 2 ^ (column % 64)) % 2 ^ 64)) (o .1) in
+            let w : getD idx k 0 ≡ column / 64 = xor-same _ _ (d .0) in
+            let m : getD masks k 0 ≡ (1 * 2 ^ (column % 64)) % 2 ^ 64 = xor-same _ _ (d .1) in
             let run = subst (λ (v : ℕ). RunOf cols e end v (getD region v 0) (upTo cols e end v (getD region v 0) ((1 * 2 ^ (column % 64)) % 2 ^ 64) (e + 1) one one)) (sym w) (run-single cols e end (column / 64) (getD region (column / 64) 0) hc l refl) in
             follow-turn to end k e sources sources (inv .alike (o .0)) _ run (sym m) (same-turn idx masks cols from first to end k e hi hm ris hc (inv .alike (o .0) .match) single-below _ _ run (sym m))
 

@@ -7,18 +7,18 @@ ghost use lib.Seq.{slice};
 ghost use Rattle.base.specs.Lists.{every, rising, below, over};
 ghost use Rattle.gather.specs.Gather.{oneEach, sumOf, valuesOf, summed, gathered};
 
-// Whether every pair has one source.
+// Whether every pair has one source, from pointers that never fall. All steps are looked at, and none waits for the one before it.
 fn one_each(ptr: &[u32]) -> bool
+    requires { ⌜ rising (now ptr) ≡ true ⌝ }
     ensures { λ r. ⌜ r ≡ oneEach (now (ptr .entry)) ⌝ }
 {
+    let mut other: u32 = 0;
     let mut i: usize = 1;
     while i < ptr.len() {
-        if base::wide(ptr[i]) != base::wide(ptr[i - 1]) + 1 {
-            return false;
-        }
+        other |= (ptr[i] - ptr[i - 1]) ^ 1;
         i += 1;
     }
-    true
+    other == 0
 }
 
 // The sum from 0.0 of one pair's entries.

@@ -3,15 +3,15 @@
 use mathlib.Core.Path.{_≡_, refl, sym, ap, ap₂, _∙_, subst}
 use mathlib.Core.Logic.{_⊎_, inl, inr, _≢_}
 use mathlib.Core.Bool.{Bool, true, false, not, _&&_, _||_}
-use mathlib.Core.List.{List}
-use Prim.Native.Nat.{ℕ, _+_, _*_, _/_, _%_, _^_, _≤_, _<_}
+use mathlib.Core.List.{List, _++_}
+use Prim.Native.Nat.{ℕ, _+_, _-_, _*_, _/_, _%_, _^_, _≤_, _<_}
 use native.Mathlib.Omega.{arith}
 use native.Mathlib.Nat.{zero-add}
 use native.Mathlib.Decide.{ℕ-discrete}
 use borrow.Author.Tests.{lt-ltb, le-ltb, le-leb, eq-eqb, leb-true}
 use lib.Dec.{T, ltb, lt→ltb, ltb→lt}
-use lib.ListN.{length, getD, set, replicate, length-replicate, getD-replicate, length-set}
-use lib.Seq.{ext-getD, getD-set-same, getD-set-other}
+use lib.ListN.{length, getD, set, take, replicate, length-replicate, getD-replicate, length-set, replicate-append-replicate}
+use lib.Seq.{ext-getD, getD-set-same, getD-set-other, take-at}
 use Rattle.base.specs.Checks.{sideLimit}
 use Rattle.base.specs.Sets.{everyBelow, countBelow}
 use Rattle.base.specs.declared.Checked.{Checked}
@@ -208,6 +208,23 @@ mask-none len =
         getD-replicate {A = ℕ} (wordsFor len) w 0 0 l
         ∙ sym (word-none (λ i. ltb i len && false) 64 (64 * w) (λ i a b t. and-r (ltb i len) false t))
         ∙ sym (word-at len (λ i. false) w l)
+
+-- two masks of the same nodes have one length
+pub masks-length : (n : ℕ) (p q : ℕ → Bool) (a b : List ℕ) → a ≡ maskWords n p → b ≡ maskWords n q → length a ≡ length b
+masks-length n p q a b e f = ap length e ∙ mask-length n p ∙ sym (mask-length n q) ∙ ap length (sym f)
+
+-- zeros to spare: the first of them are the empty mask
+pub zeros-empty : (n m need : ℕ) → need ≡ wordsFor n → need ≤ m → take need (replicate {A = ℕ} m 0) ≡ maskWords n (λ i. false)
+zeros-empty n m need e h =
+    let s : need + (m - need) ≡ m = omega arith in
+    ap (λ (k : ℕ). take need (replicate {A = ℕ} k 0)) (sym s)
+    ∙ ap (take need) (sym (replicate-append-replicate need (m - need) 0))
+    ∙ take-at (replicate {A = ℕ} need 0) (replicate {A = ℕ} (m - need) 0) need (length-replicate {A = ℕ} need 0)
+    ∙ ap (λ (k : ℕ). replicate {A = ℕ} k 0) e ∙ mask-none n
+
+-- and what is then written over them is found there
+pub mask-front : (n : ℕ) (p : ℕ → Bool) (words rest : List ℕ) → words ≡ maskWords n p → take (wordsFor n) (words ++ rest) ≡ maskWords n p
+mask-front n p words rest e = take-at words rest (wordsFor n) (ap length e ∙ mask-length n p) ∙ e
 
 -- ---- a mask under another name
 

@@ -13,7 +13,7 @@ use lib.Seq.{slice}
 use Rattle.base.specs.Checks.{sideLimit}
 use Rattle.base.specs.Lists.{isIn, listFrom, joinBelow, over, placed}
 use Rattle.base.specs.Sets.{countBelow, membersBelow}
-use Rattle.base.proofs.Bools.{T-true, and-l, not-T-of}
+use Rattle.base.proofs.Bools.{T-true, and-l, and-under, not-T-of}
 use Rattle.base.proofs.Joins.{join-none, join-cong, join-count}
 use Rattle.base.proofs.Lists.{getD-map, listFrom-cong, over-at, over-room, placed-none, placed-length}
 use Rattle.base.proofs.Placed.{getD-placed}
@@ -79,17 +79,13 @@ module _ (region : List ℕ) (first at most : ℕ) (lcols sptr src : List ℕ) w
   row-empty n paired s ptr cols r marked low member unmarked =
       nothing (columnsOf n (inMask region) s r) (rowEntries n (inMask region) s ptr cols r) (count-members n (inside (inMask region) s r) ∙ marked .none r low member unmarked)
 
-under : (a b d : Bool) → (T a → b ≡ d) → (a && b) ≡ (a && d)
-under true b d h = h tt
-under false b d h = refl
-
 -- where the pairs inside are the entries, the row's columns are its entries'
 pub columns-stored : (n : ℕ) (p : ℕ → Bool) (s : ℕ → ℕ → Bool) (ptr cols : List ℕ) (r : ℕ) → ((c : ℕ) → c < n → T (p c) → s r c ≡ stored ptr cols r c)
     → columnsIn n p cols (getD ptr r 0) (getD ptr (r + 1) 0) ≡ columnsOf n p s r
 unfolding stored
 columns-stored n p s ptr cols r same =
     members-ext (λ c. p c && isIn c (slice (getD ptr r 0) (getD ptr (r + 1) 0) cols)) (inside p s r) 0 n
-    (λ c a b. under (p c) (isIn c (slice (getD ptr r 0) (getD ptr (r + 1) 0) cols)) (s r c) (λ t. sym (same c (omega arith) t)))
+    (λ c a b. and-under (p c) (isIn c (slice (getD ptr r 0) (getD ptr (r + 1) 0) cols)) (s r c) (λ t. sym (same c (omega arith) t)))
 
 -- as many entries inside as its pairs have
 pub inside-length : (n : ℕ) (p : ℕ → Bool) (s : ℕ → ℕ → Bool) (ptr cols : List ℕ) (r : ℕ) → IsMatrix n n ptr cols → r < n → ((c : ℕ) → c < n → T (p c) → s r c ≡ stored ptr cols r c)

@@ -6,11 +6,11 @@ use Prim.Native.Nat.{ℕ, _+_, _-_, _≤_, _<_}
 use native.Mathlib.Nat.{le-refl}
 use native.Mathlib.Omega.{arith}
 use lib.ListN.{length, getD, set, drop, length-append, length-drop, List·getD-append}
-use lib.Seq.{getD-append-add, getD-drop, ext-getD}
+use lib.Seq.{getD-append-add, ext-getD}
 use Rattle.base.specs.Lists.{listFrom, joinBelow, over, placed}
 use Rattle.base.proofs.Bools.{lt-or-le}
 use Rattle.base.proofs.Joins.{join-none, join-append, join-cong, join-part}
-use Rattle.base.proofs.Lists.{length-listFrom, listFrom-append, listFrom-shift, listFrom-cong, placed-over, placed-length}
+use Rattle.base.proofs.Lists.{length-listFrom, listFrom-append, listFrom-shift, listFrom-cong, over-beyond, placed-over, placed-length}
 use Rattle.sources.specs.Steps.{endsFrom, Put}
 use Rattle.sources.proofs.Rows.{ends-length}
 
@@ -28,10 +28,6 @@ starts-none f = ap (λ (x : List ℕ). length x ∷ []) (join-none f)
 first-over : (l : List ℕ) → 0 < length l → set l 0 0 ≡ over (0 ∷ []) (set l 0 0)
 first-over [] h = absurd (omega arith)
 first-over (x ∷ l) h = refl
-
--- past an answer the list stays
-over-past : (x l : List ℕ) (j : ℕ) → getD (over x l) (length x + j) 0 ≡ getD l (length x + j) 0
-over-past x l j = getD-append-add x (drop (length x) l) j 0 ∙ getD-drop (length x) l j 0
 
 -- the sources of the first of `all` pairs are written; between them and where the last will end anything may stand
 pub record Sourced (f : ℕ → List ℕ) (all : ℕ) (ptr₀ src₀ ptr src : List ℕ) (pairs next : ℕ) : Type 0 where
@@ -134,4 +130,4 @@ sourced-all f all ptr₀ src₀ ptr src pairs next w e room =
     each i (inl a) = w .src-done i (omega (arith, w .here, ap (λ (k : ℕ). length (joinBelow k f)) e)) ∙ sym (List·getD-append x (drop (length x) src₀) 0 i a)
     each i (inr a) =
         let s : length x + (i - length x) ≡ i = omega arith in
-        w .src-past i a ∙ ap (λ (k : ℕ). getD src₀ k 0) (sym s) ∙ sym (over-past x src₀ (i - length x)) ∙ ap (λ (k : ℕ). getD (over x src₀) k 0) s
+        w .src-past i a ∙ ap (λ (k : ℕ). getD src₀ k 0) (sym s) ∙ sym (over-beyond x src₀ (i - length x) 0) ∙ ap (λ (k : ℕ). getD (over x src₀) k 0) s

@@ -11,11 +11,11 @@ use Rattle.base.proofs.Checks.{refused-not-accepted, on-refused, group-pass, gr
 use Rattle.csr32.specs.Matrix.{matrixCheck}
 use Rattle.csr32.proofs.Matrix.{accepted}
 use Rattle.mask.specs.Mask.{inMask}
+use Rattle.mask.proofs.Masks.{zeros-empty, mask-front}
 use Rattle.side.specs.Side.{sideHolds}
 use Rattle.dual_topology.specs.Check.{topologyCheck}
 use Rattle.pattern.specs.Pattern.{regionCheck}
 use Rattle.binding.specs.Steps.{countsOf, hasPair}
-use Rattle.binding.proofs.Rows.{zeros-empty, mask-front}
 use Rattle.binding.specs.declared.Binding.{Binding}
 use Rattle.numeric_plan.specs.Plan.{sidesCheck, planInputs}
 use Rattle.numeric_plan.proofs.Accepted.{Region, accepted-region, square-matrix}

@@ -11,7 +11,7 @@ use Rattle.base.specs.Checks.{after}
 use Rattle.base.proofs.Bools.{both-ways}
 use Rattle.base.proofs.Sets.{count-le}
 use Rattle.mask.specs.Mask.{inMask, maskWords}
-use Rattle.mask.proofs.Masks.{is-of}
+use Rattle.mask.proofs.Masks.{is-of, masks-length}
 use Rattle.mask.proofs.Nexts.{Next, next-is}
 use Rattle.csr32.specs.Matrix.{stored}
 use Rattle.side.specs.Side.{sideHolds}
@@ -20,7 +20,6 @@ use Rattle.binding.specs.Steps.{rowCounts}
 use Rattle.binding.specs.declared.RowCounts.{RowCounts}
 use Rattle.binding.specs.declared.RowBinding.{RowBinding}
 use Rattle.binding.proofs.Answers.{bound-passes}
-use Rattle.binding.proofs.Rows.{masks-length}
 use Rattle.binding.proofs.Paired.{Marks, marks-first, marks-turn, marks-last}
 use Rattle.binding.proofs.Sources.{Settling, row-follows, settle-first, settle-turn, settle-last, row-pairs, pairs-fit, sources-fit}
 use Rattle.binding.proofs.inner.follow_members.Statement.{statement}

@@ -8,10 +8,9 @@ use borrow.Author.Needs.{needs}
 use Rattle.base.proofs.Checks.{refused-not-accepted}
 use Rattle.base.proofs.Sets.{count-le}
 use Rattle.mask.specs.Mask.{inMask}
-use Rattle.mask.proofs.Masks.{is-of}
+use Rattle.mask.proofs.Masks.{is-of, masks-length}
 use Rattle.mask.proofs.Nexts.{Next, next-is}
 use Rattle.side.specs.Side.{sideHolds}
-use Rattle.binding.proofs.Rows.{masks-length}
 use Rattle.binding.proofs.Paired.{Marks, marks-first, marks-turn, marks-last}
 use Rattle.binding.proofs.Sources.{Settling, settle-first, settle-stop, stop-check, settle-turn, settle-last, row-pairs, pairs-fit, sources-fit}
 use Rattle.binding.proofs.inner.settle_members.Statement.{statement}

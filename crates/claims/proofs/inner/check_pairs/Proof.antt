@@ -2,7 +2,7 @@
 use borrow.Author.Needs.{needs}
 use Prim.Native.Nat.{_-_}
 use native.Mathlib.Omega.{arith}
-use Rattle.binding.proofs.Rows.{zeros-empty}
+use Rattle.mask.proofs.Masks.{zeros-empty}
 use Rattle.claims.proofs.inner.check_pairs.Statement.{statement}
 use Rattle.claims.proofs.inner.check_pairs.Tie as tie
 

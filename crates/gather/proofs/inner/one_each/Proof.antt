@@ -1,58 +1,105 @@
--- `gather::inner::one_each` meets its contract. The scan's invariant: the test of all pointers is the test of those from the last one read on. Assumes nothing.
-use mathlib.Core.Path.{_≡_, sym, _∙_, ap}
-use Prim.Native.Nat.{ℕ, _+_, _-_, _≤_}
+-- `gather::inner::one_each` meets its contract. The scan's invariant: where no step differs from one so far, the test of all pointers is the test
+-- of those from the last one read on; otherwise it fails. Assumes nothing.
+use mathlib.Core.Path.{_≡_, refl, sym, _∙_, ap, ap₂}
+use mathlib.Core.Logic.{_⊎_, inl, inr}
+use mathlib.Core.Bool.{false}
+use mathlib.Core.List.{List}
+use Prim.Native.Nat.{ℕ, _+_, _-_, _≤_, _<_}
 use native.Mathlib.Omega.{arith}
+use lib.Bits.{bitOr, bitXor, or-add-and, xor-add-and, xor-self, and-le-l, and-le-r}
 use lib.ListN.{length, getD, drop, length-drop}
-use lib.Dec.{eqb}
+use lib.Dec.{eqb, leb}
 use borrow.Author.Needs.{needs}
-use borrow.Author.Tests.{eq-eqb, ne-eqb}
-use Rattle.base.proofs.Lists.{pairwise-step, pairwise-stop, pairwise-short}
+use borrow.Author.Tests.{eq-eqb, ne-eqb, leb-true}
+use Rattle.base.proofs.Bools.{eq-or-ne}
+use Rattle.base.proofs.Lists.{pairwise-step, pairwise-stop, pairwise-short, pairwise-at}
 use Rattle.gather.specs.Gather.{oneEach}
 use Rattle.gather.proofs.inner.one_each.Statement.{statement}
 use Rattle.gather.proofs.inner.one_each.Tie as tie
 
+record Scanned (ptr : List ℕ) (other i : ℕ) : Type 0 where
+  since : 1 ≤ i
+  so-far : other ≡ 0 → oneEach ptr ≡ oneEach (drop (i - 1) ptr)
+  failed : (other ≡ 0 → ⊥) → oneEach ptr ≡ false
+
 abbrev Inv-loop : tie.InvT-loop
-Inv-loop ptr i₀ i = (1 ≤ i) × (oneEach ptr ≡ oneEach (drop (i - 1) ptr))
+Inv-loop ptr other₀ i₀ other i = Scanned ptr other i
 
 abbrev μ-loop : tie.MeasureT-loop
-μ-loop ptr i₀ i = length ptr - i
+μ-loop ptr other₀ i₀ other i = length ptr - i
+
+-- one step, from a to b
+module _ (ptr : List ℕ) (other i : ℕ) (inv : Scanned ptr other i) (l : i < length ptr) (up : getD ptr (i - 1) 0 ≤ getD ptr i 0) where
+  abbrev step : ℕ
+  step = bitXor (getD ptr i 0 - getD ptr (i - 1) 0) 1
+
+  back : i - 1 + 1 ≡ i
+  back = omega (arith, inv .since)
+
+  here : getD ptr (i - 1 + 1) 0 ≡ getD ptr i 0
+  here = ap (λ (k : ℕ). getD ptr k 0) back
+
+  none : bitOr other step ≡ 0 → (other ≡ 0) × (step ≡ 0)
+  none z = (omega (arith, or-add-and other step, and-le-l other step, and-le-r other step), omega (arith, or-add-and other step, and-le-l other step, and-le-r other step))
+
+  one : step ≡ 0 → getD ptr (i - 1 + 1) 0 ≡ getD ptr (i - 1) 0 + 1
+  one z =
+      let d : ℕ = getD ptr i 0 - getD ptr (i - 1) 0 in
+      omega (arith, here, xor-add-and d 1, and-le-l d 1, and-le-r d 1)
+
+  goes : bitOr other step ≡ 0 → oneEach ptr ≡ oneEach (drop (i + 1 - 1) ptr)
+  goes z =
+      let m : i - 1 + 1 ≡ i + 1 - 1 = omega (arith, inv .since) in
+      pairwise-step (λ (from to : ℕ). eqb to (from + 1)) 0 ptr (i - 1) (omega (arith, inv .since)) (eq-eqb _ _ (one (none z .1))) (inv .so-far (none z .0)) ∙ ap (λ (k : ℕ). oneEach (drop k ptr)) m
+
+  fails : (bitOr other step ≡ 0 → ⊥) → oneEach ptr ≡ false
+  fails n = go (eq-or-ne other 0)
+    where
+      other-step : other ≡ 0 → getD ptr (i - 1 + 1) 0 ≡ getD ptr (i - 1) 0 + 1 → ⊥
+      other-step z e =
+          let d : getD ptr i 0 - getD ptr (i - 1) 0 ≡ 1 = omega (arith, here, e) in
+          n (ap₂ bitOr z (ap (λ (x : ℕ). bitXor x 1) d ∙ xor-self 1))
+
+      go : (other ≡ 0) ⊎ (other ≡ 0 → ⊥) → oneEach ptr ≡ false
+      go (inl z) = pairwise-stop (λ (from to : ℕ). eqb to (from + 1)) 0 ptr (i - 1) (omega (arith, inv .since)) (ne-eqb _ _ (other-step z)) (inv .so-far z)
+      go (inr m) = inv .failed m
+
+  next : Scanned ptr (bitOr other step) (i + 1)
+  next = record { since = omega arith; so-far = goes; failed = fails }
+
+ends : (ptr : List ℕ) (other i : ℕ) → Scanned ptr other i → length ptr ≤ i → (other ≡ 0) ⊎ (other ≡ 0 → ⊥) → eqb other 0 ≡ oneEach ptr
+ends ptr other i inv h (inl z) = eq-eqb other 0 z ∙ sym (inv .so-far z ∙ pairwise-short (λ (from to : ℕ). eqb to (from + 1)) (drop (i - 1) ptr) (simp length-drop (omega (arith, inv .since))))
+ends ptr other i inv h (inr n) = ne-eqb other 0 n ∙ sym (inv .failed n)
+
+-- the pointers never fall
+rise : (c : tie.In-loop Inv-loop μ-loop) → getD (c .before .before .args .ptr .now) (c .before .loop .i - 1) 0 ≤ getD (c .before .before .args .ptr .now) (c .before .loop .i) 0
+rise c =
+    let ptr = c .before .before .args .ptr .now in
+    let i = c .before .loop .i in
+    let e : i - 1 + 1 ≡ i = omega (arith, c .before .loop .inv .since) in
+    let n : getD ptr (i - 1 + 1) 0 ≡ getD ptr i 0 = ap (λ (k : ℕ). getD ptr k 0) e in
+    omega (arith, n, leb-true (getD ptr (i - 1) 0) (getD ptr (i - 1 + 1) 0) (pairwise-at leb 0 ptr (i - 1) (c .before .before .pre) (omega (arith, c .before .loop .inv .since, c .loop-test .taken))))
 
 loop-holds : tie.Need-loop-holds Inv-loop μ-loop
-loop-holds c = search needs
+loop-holds c = record { since = omega arith; so-far = λ z. refl; failed = λ n. absurd (n refl) }
 
-mul-wide : tie.Need-mul-wide Inv-loop μ-loop
-mul-wide c = search needs
+mul-other : tie.Need-mul-other Inv-loop μ-loop
+mul-other c = search needs
 
-shared-slice-read-wide : tie.Need-shared-slice-read-wide Inv-loop μ-loop
-shared-slice-read-wide c = search needs
+shared-slice-read-other : tie.Need-shared-slice-read-other Inv-loop μ-loop
+shared-slice-read-other c = search needs
 
-wide-requires : tie.Need-wide-requires Inv-loop μ-loop
-wide-requires c κs = search needs
+sub-other : tie.Need-sub-other Inv-loop μ-loop
+sub-other c = c .before .before .loop .inv .since
 
-sub-wide : tie.Need-sub-wide Inv-loop μ-loop
-sub-wide c = search needs
+mul-other-2 : tie.Need-mul-other-2 Inv-loop μ-loop
+mul-other-2 c = search needs
 
-mul-wide-2 : tie.Need-mul-wide-2 Inv-loop μ-loop
-mul-wide-2 c = search needs
+shared-slice-read-other-2 : tie.Need-shared-slice-read-other-2 Inv-loop μ-loop
+shared-slice-read-other-2 c = omega (arith, c .before .before .loop-test .taken)
 
-shared-slice-read-wide-2 : tie.Need-shared-slice-read-wide-2 Inv-loop μ-loop
-shared-slice-read-wide-2 c = search needs
-
-wide-requires-2 : tie.Need-wide-requires-2 Inv-loop μ-loop
-wide-requires-2 c κs = search needs
-
-add-if1 : tie.Need-add-if1 Inv-loop μ-loop
-add-if1 c = omega (arith, c .before .shared-slice-known3 .given (c .before .before .before .before .before .loop .i - 1))
-
-returns : tie.Need-returns Inv-loop μ-loop
-returns c =
-    let l = c .before .before .before .before .before .before in
-    let s = l .before .before .args .ptr .now in
-    let i = l .loop .i in
-    let e : i - 1 + 1 ≡ i = omega arith in
-    let n : getD s (i - 1 + 1) 0 ≡ getD s i 0 = ap (λ (k : ℕ). getD s k 0) e in
-    let h : getD s (i - 1 + 1) 0 ≡ getD s (i - 1) 0 + 1 → ⊥ = λ q. c .if1 .taken (omega arith) in
-    sym (pairwise-stop (λ (from to : ℕ). eqb to (from + 1)) 0 s (i - 1) (omega arith) (ne-eqb _ _ h) (l .loop .inv .1))
+sub-other-2 : tie.Need-sub-other-2 Inv-loop μ-loop
+sub-other-2 c = rise (c .before .before)
 
 add-i : tie.Need-add-i Inv-loop μ-loop
 add-i c = search needs
@@ -61,20 +108,11 @@ loop-less : tie.Need-loop-less Inv-loop μ-loop
 loop-less c = search needs
 
 loop-again : tie.Need-loop-again Inv-loop μ-loop
-loop-again c =
-    let l = c .before .before .before .before .before .before in
-    let s = l .before .before .args .ptr .now in
-    let i = l .loop .i in
-    let e : i - 1 + 1 ≡ i = omega arith in
-    let n : getD s (i - 1 + 1) 0 ≡ getD s i 0 = ap (λ (k : ℕ). getD s k 0) e in
-    let h : getD s (i - 1 + 1) 0 ≡ getD s (i - 1) 0 + 1 = omega arith in
-    let m : i - 1 + 1 ≡ i + 1 - 1 = omega arith in
-    (omega arith, pairwise-step (λ (from to : ℕ). eqb to (from + 1)) 0 s (i - 1) (omega arith) (eq-eqb _ _ h) (l .loop .inv .1) ∙ ap (λ (k : ℕ). oneEach (drop k s)) m)
+loop-again c = next (c .before .before .before .before .args .ptr .now) (c .before .before .before .loop .other) (c .before .before .before .loop .i) (c .before .before .before .loop .inv) (c .before .before .loop-test .taken) (rise (c .before .before))
 
-returns-2 : tie.Need-returns-2 Inv-loop μ-loop
-returns-2 c =
-    let l = c .before in
-    sym (l .loop .inv .1 ∙ pairwise-short (λ (from to : ℕ). eqb to (from + 1)) (drop (l .loop .i - 1) (l .before .before .args .ptr .now)) (simp length-drop (omega arith)))
+returns : tie.Need-returns Inv-loop μ-loop
+returns c =
+    ends (c .before .before .args .ptr .now) (c .before .loop .other) (c .before .loop .i) (c .before .loop .inv) (c .loop-test .left) (eq-or-ne (c .before .loop .other) 0)
 
 pub one-each-spec : {M : Type 1} → statement M
 one-each-spec =
@@ -83,16 +121,13 @@ one-each-spec =
     Inv-loop
     μ-loop
     loop-holds
-    mul-wide
-    shared-slice-read-wide
-    wide-requires
-    sub-wide
-    mul-wide-2
-    shared-slice-read-wide-2
-    wide-requires-2
-    add-if1
-    returns
+    mul-other
+    shared-slice-read-other
+    sub-other
+    mul-other-2
+    shared-slice-read-other-2
+    sub-other-2
     add-i
     loop-less
     loop-again
-    returns-2)
+    returns)

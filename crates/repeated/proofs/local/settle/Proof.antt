@@ -7,13 +7,13 @@ use lib.ListN.{length, take, length-replicate}
 use lib.Seq.{length-take-le}
 use Rattle.base.proofs.Checks.{refused-not-accepted}
 use Rattle.mask.specs.Mask.{inMask}
+use Rattle.mask.proofs.Masks.{zeros-empty, mask-front}
 use Rattle.csr32.specs.Matrix.{stored}
 use Rattle.side.specs.Side.{sideHolds}
 use Rattle.binding.specs.Binding.{bindingCheck}
 use Rattle.binding.specs.Steps.{countsOf, hasPair}
 use Rattle.binding.specs.declared.Counts.{Counts}
 use Rattle.binding.proofs.Answers.{bound-passes, refused-stops}
-use Rattle.binding.proofs.Rows.{zeros-empty, mask-front}
 use Rattle.repeated.proofs.local.settle.Statement.{statement}
 use Rattle.repeated.proofs.local.settle.Tie as tie
 
