@@ -1,3 +1,4 @@
+pub mod Bits
 pub mod Bools
 pub mod Checks
 pub mod Lists

@@ -14,11 +14,12 @@ use lib.ListN.{length, getD}
 use lib.Seq.{slice}
 use Rattle.base.specs.Lists.{isIn}
 use Rattle.base.specs.Sets.{one-if, countBelow}
+use Rattle.base.proofs.Bits.{or-none, xor-same}
 use Rattle.base.proofs.Bools.{T-false, not-T-of, or-false, eq-or-ne}
 use Rattle.base.proofs.Lists.{in-empty, in-behind, in-parts, in-slice-where}
 use Rattle.base.proofs.Sets.{sum-cong, sum-add, sum-none, sum-place, count-cong, count-le}
 use Rattle.word.specs.Bits.{bitAt}
-use Rattle.word.proofs.Bits.{xor-same, or-none, one-shl, zero-bit, bit-and, bit-or, bit-not, bit-pow}
+use Rattle.word.proofs.Bits.{one-shl, zero-bit, bit-and, bit-or, bit-not, bit-pow}
 use Rattle.word.proofs.Words.{bit-word, word-lt, word-ext, word-none, word-add-same}
 use Rattle.mask.specs.Mask.{inMask, IsMask}
 use Rattle.csr32.specs.Matrix.{stored}

@@ -350,7 +350,7 @@ fn settle_row(
     }
 }
 
-// Row r is marked where it has a pair: by a bit or none, without a branch that depends on it.
+// Row r is marked where it has a pair. A bit or none is stored each time: which it is follows no order, and a store that hangs on it costs more.
 fn mark_row(n: usize, r: usize, pairs: usize, paired: &mut [u64])
     requires { ⌜ IsMask n (now paired) × (r < n) ⌝ }
     ensures { λ _. ⌜ now (paired .exit) ≡ cond (ltb 0 pairs) (withNode n (now (paired .entry)) r true) (now (paired .entry)) ⌝ }

@@ -9,7 +9,7 @@ use native.Mathlib.Nat.{zero-add}
 use native.Mathlib.Omega.{arith}
 use borrow.Author.Tests.{ne-eqb}
 use lib.Arith.{lt-one, digits-mod}
-use lib.Bits.{bitAnd, bitOr, and-step, or-step, and-self, and-mask, and-le-l, and-le-r, or-add-and, xor-add-and, and-shr, or-shr, and-high, bitXor, differ, xor-step, xor-shr}
+use lib.Bits.{bitAnd, bitOr, and-step, or-step, and-self, and-mask, and-le-r, and-shr, or-shr, and-high, bitXor, differ, xor-step, xor-shr}
 use lib.Count.{ones, onesIn, ones-step, trailingZeros}
 use lib.Dec.{T, eqb, eqb·suc-suc, eqb·zero-suc, eqb·suc-zero}
 use lib.ListN.{length, length-map, getD}
@@ -204,13 +204,6 @@ bit-and a b i =
     go zero (suc (suc e)) h k = absurd (omega arith)
     go (suc zero) (suc (suc e)) h k = absurd (omega arith)
     go (suc (suc d)) e h k = absurd (omega arith)
-
--- nothing is set, nothing differs
-pub or-none : (a b : ℕ) → bitOr a b ≡ 0 → (a ≡ 0) × (b ≡ 0)
-or-none a b z = (omega (arith, or-add-and a b, and-le-l a b, and-le-r a b), omega (arith, or-add-and a b, and-le-l a b, and-le-r a b))
-
-pub xor-same : (a b : ℕ) → bitXor a b ≡ 0 → a ≡ b
-xor-same a b z = omega (arith, xor-add-and a b, and-le-l a b, and-le-r a b)
 
 -- of `a ^ b`
 pub bit-xor : (a b i : ℕ) → bitAt (bitXor a b) i ≡ cond (bitAt a i) (not (bitAt b i)) (bitAt b i)

@@ -1,9 +1,9 @@
 -- `numeric_plan::check_inputs` meets its contract. Assumes nothing.
 use borrow.Author.Needs.{needs}
 use mathlib.Core.Path.{_≡_, refl, sym, ap, _∙_}
-use Prim.Native.Nat.{ℕ, _≤_}
+use Prim.Native.Nat.{_≤_}
 use native.Mathlib.Omega.{arith}
-use lib.ListN.{length, take, length-replicate}
+use lib.ListN.{length, take}
 use lib.Seq.{length-take-le}
 use Rattle.base.specs.Checks.{_then_, after}
 use Rattle.base.specs.declared.Checked.{Checked}
@@ -11,7 +11,7 @@ use Rattle.base.proofs.Checks.{refused-not-accepted, on-refused, group-pass, gr
 use Rattle.csr32.specs.Matrix.{matrixCheck}
 use Rattle.csr32.proofs.Matrix.{accepted}
 use Rattle.mask.specs.Mask.{inMask}
-use Rattle.mask.proofs.Masks.{zeros-empty, mask-front}
+use Rattle.mask.proofs.Masks.{zeros-empty, zeros-room, mask-front}
 use Rattle.side.specs.Side.{sideHolds}
 use Rattle.dual_topology.specs.Check.{topologyCheck}
 use Rattle.pattern.specs.Pattern.{regionCheck}
@@ -58,7 +58,7 @@ enum-told-2 c = search needs
 
 -- the mask's words are there
 room : (c : tie.After-words-for) → c .words-for .result ≤ length (c .before .before .before .before .before .before .before .before .before .before .before .before .before .before .before .before .before .before .args .paired .now)
-room c = omega (arith, c .words-for .ensures, good (c .before) .mask .short, ap length (c .before .before .before .before .before .before .before .before .before .before .before .before .before .before .before .before .before .before .pre), length-replicate {A = ℕ} 16384 0)
+room c = zeros-room _ _ _ (good (c .before) .mask .short) (c .words-for .ensures) (c .before .before .before .before .before .before .before .before .before .before .before .before .before .before .before .before .before .before .pre)
 
 words-for-requires : tie.Need-words-for-requires
 words-for-requires c κs = good c .mask .short

@@ -6,11 +6,12 @@ use mathlib.Core.Bool.{false}
 use mathlib.Core.List.{List}
 use Prim.Native.Nat.{ℕ, _+_, _-_, _≤_, _<_}
 use native.Mathlib.Omega.{arith}
-use lib.Bits.{bitOr, bitXor, or-add-and, xor-add-and, xor-self, and-le-l, and-le-r}
+use lib.Bits.{bitOr, bitXor, xor-self}
 use lib.ListN.{length, getD, drop, length-drop}
 use lib.Dec.{eqb, leb}
 use borrow.Author.Needs.{needs}
 use borrow.Author.Tests.{eq-eqb, ne-eqb, leb-true}
+use Rattle.base.proofs.Bits.{or-none, xor-same}
 use Rattle.base.proofs.Bools.{eq-or-ne}
 use Rattle.base.proofs.Lists.{pairwise-step, pairwise-stop, pairwise-short, pairwise-at}
 use Rattle.gather.specs.Gather.{oneEach}
@@ -39,18 +40,13 @@ module _ (ptr : List ℕ) (other i : ℕ) (inv : Scanned ptr other i) (l : i < l
   here : getD ptr (i - 1 + 1) 0 ≡ getD ptr i 0
   here = ap (λ (k : ℕ). getD ptr k 0) back
 
-  none : bitOr other step ≡ 0 → (other ≡ 0) × (step ≡ 0)
-  none z = (omega (arith, or-add-and other step, and-le-l other step, and-le-r other step), omega (arith, or-add-and other step, and-le-l other step, and-le-r other step))
-
   one : step ≡ 0 → getD ptr (i - 1 + 1) 0 ≡ getD ptr (i - 1) 0 + 1
-  one z =
-      let d : ℕ = getD ptr i 0 - getD ptr (i - 1) 0 in
-      omega (arith, here, xor-add-and d 1, and-le-l d 1, and-le-r d 1)
+  one z = omega (arith, here, xor-same (getD ptr i 0 - getD ptr (i - 1) 0) 1 z)
 
   goes : bitOr other step ≡ 0 → oneEach ptr ≡ oneEach (drop (i + 1 - 1) ptr)
   goes z =
       let m : i - 1 + 1 ≡ i + 1 - 1 = omega (arith, inv .since) in
-      pairwise-step (λ (from to : ℕ). eqb to (from + 1)) 0 ptr (i - 1) (omega (arith, inv .since)) (eq-eqb _ _ (one (none z .1))) (inv .so-far (none z .0)) ∙ ap (λ (k : ℕ). oneEach (drop k ptr)) m
+      pairwise-step (λ (from to : ℕ). eqb to (from + 1)) 0 ptr (i - 1) (omega (arith, inv .since)) (eq-eqb _ _ (one (or-none other step z .1))) (inv .so-far (or-none other step z .0)) ∙ ap (λ (k : ℕ). oneEach (drop k ptr)) m
 
   fails : (bitOr other step ≡ 0 → ⊥) → oneEach ptr ≡ false
   fails n = go (eq-or-ne other 0)

@@ -1,13 +1,13 @@
 -- `repeated::local::settle` meets its contract: what binds is not refused. Assumes nothing.
 use borrow.Author.Needs.{needs}
 use mathlib.Core.Path.{sym, ap, _∙_}
-use Prim.Native.Nat.{ℕ, _≤_}
+use Prim.Native.Nat.{_≤_}
 use native.Mathlib.Omega.{arith}
-use lib.ListN.{length, take, length-replicate}
+use lib.ListN.{length, take}
 use lib.Seq.{length-take-le}
 use Rattle.base.proofs.Checks.{refused-not-accepted}
 use Rattle.mask.specs.Mask.{inMask}
-use Rattle.mask.proofs.Masks.{zeros-empty, mask-front}
+use Rattle.mask.proofs.Masks.{zeros-empty, zeros-room, mask-front}
 use Rattle.csr32.specs.Matrix.{stored}
 use Rattle.side.specs.Side.{sideHolds}
 use Rattle.binding.specs.Binding.{bindingCheck}
@@ -19,7 +19,7 @@ use Rattle.repeated.proofs.local.settle.Tie as tie
 
 -- the mask's words are there
 room : (c : tie.After-words-for) → c .words-for .result ≤ length (c .before .before .before .before .before .before .before .before .args .paired .now)
-room c = omega (arith, c .words-for .ensures, c .before .before .before .before .before .before .before .before .pre .0 .mask .short, ap length (c .before .before .before .before .before .before .before .before .pre .1), length-replicate {A = ℕ} 16384 0)
+room c = zeros-room _ _ _ (c .before .before .before .before .before .before .before .before .pre .0 .mask .short) (c .words-for .ensures) (c .before .before .before .before .before .before .before .before .pre .1)
 
 words-for-requires : tie.Need-words-for-requires
 words-for-requires c κs = c .before .before .before .before .before .before .before .pre .0 .mask .short
