@@ -11,7 +11,7 @@ ghost use Rattle.dof_layout.specs.Runs.{Run};
 
 // The running totals at the front of `out`, which has room for them; answers the total.
 pub fn write_offsets(components: &[u32], out: &mut [u64]) -> u64
-    requires { ⌜ (totalOf (now components) ≤ sideLimit) × (length (now components) < length (now out)) ⌝ }
+    requires { ⌜ (totalOf (now components) < 18446744073709551616) × (length (now components) < length (now out)) ⌝ }
     ensures { λ r. ⌜ r ≡ totalOf (now (components .entry)) ⌝ }
     ensures { λ r. ⌜ now (out .exit) ≡ over (offsetsOf (now (components .entry))) (now (out .entry)) ⌝ }
 {

@@ -41,7 +41,7 @@ returns c =
     (ap Counted.Refused (c .plain .ensures) ∙ on-refused _ _ _ Counted.Refused e, kept _ _ _ _ e)
 
 write-offsets-requires : tie.Need-write-offsets-requires
-write-offsets-requires c κs = (blocks (c .before .before) .short, omega (arith, blocks (c .before .before) .components-length, c .before .if1 .left))
+write-offsets-requires c κs = (omega (arith, blocks (c .before .before) .short), omega (arith, blocks (c .before .before) .components-length, c .before .if1 .left))
 
 returns-2 : tie.Need-returns-2
 unfolding newCheck

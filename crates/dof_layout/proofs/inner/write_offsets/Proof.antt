@@ -32,7 +32,7 @@ mul-total c = search needs
 shared-slice-read-total : tie.Need-shared-slice-read-total Inv-loop μ-loop
 shared-slice-read-total c = search needs
 
--- the next total is at most the whole, which is within the limit
+-- the next total is at most the whole, which fits
 fits : (c : tie.After-shared-slice-known Inv-loop μ-loop) → c .before .before .loop .total + getD (c .before .before .before .args .components .now) (c .before .before .loop .b) 0 ≤ totalOf (c .before .before .before .args .components .now)
 fits c =
     let cs = c .before .before .before .args .components .now in

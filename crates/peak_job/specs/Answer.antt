@@ -1,0 +1,85 @@
+-- The job program of document 01: the checks of a job, and the text that answers it.
+use mathlib.Core.Bool.{Bool, _&&_}
+use mathlib.Core.List.{List}
+use Prim.Native.Nat.{ℕ}
+use lib.Dec.{leb}
+use lib.Ieee.{Float}
+use lib.ListN.{length, replicate}
+use Rattle.base.specs.Checks.{must, _then_, after}
+use Rattle.base.specs.Lists.{every, below, isIn, listFrom}
+use Rattle.base.specs.Sets.{membersBelow}
+use Rattle.base.specs.declared.Checked.{Checked}
+use Rattle.mask.specs.Mask.{inMask, maskWords}
+use Rattle.csr32.specs.Matrix.{matrixCheck, stored}
+use Rattle.dof_layout.specs.Layout.{offsetsOf}
+use Rattle.dof_layout.specs.Answers.{squareCheck}
+use Rattle.graph.specs.Network.{Network, fieldNetwork, hopsCompleted, regionWords, frontierWords}
+use Rattle.pattern.specs.Pattern.{one, patternPtr, patternColumns}
+use Rattle.job_text.specs.Job.{Job, isJob, jobOf}
+use Rattle.job_text.specs.Answer.{resultLines, refusedText}
+
+-- ---- the checks
+
+-- 1: size over 256, or a list longer than its array; blocks and cols have one place less, for offsets and source pointers
+unfoldable pub inArrays : Job → Bool
+inArrays j =
+    leb (j .size) 256
+    && leb (length (j .blocks)) 1023
+    && leb (length (j .ptr)) 1024
+    && leb (length (j .cols)) 1023
+    && leb (length (j .seeds)) 1024
+
+-- a block has kind 1, its id by position, field 0
+abbrev pub kindsOf : List ℕ → List ℕ
+kindsOf blocks = replicate (length blocks) 1
+
+abbrev pub idsOf : List ℕ → List ℕ
+idsOf blocks = listFrom (λ b. b) (length blocks) 0
+
+abbrev pub fieldsOf : List ℕ → List ℕ
+fieldsOf blocks = replicate (length blocks) 0
+
+-- every value is 1.0
+abbrev pub valuesOf : List ℕ → List Float
+valuesOf cols = replicate (length cols) one
+
+-- a seed not below size is 13; then the prepared region's order. Its mask and its lists the program makes itself: they are not refused
+unfoldable pub askCheck : Job → Checked
+askCheck j =
+    must (every (below (j .size)) (j .seeds)) 13
+    then matrixCheck (j .size) (j .size) (j .ptr) (j .cols) (valuesOf (j .cols))
+    then squareCheck (kindsOf (j .blocks)) (idsOf (j .blocks)) (fieldsOf (j .blocks)) (j .blocks) (offsetsOf (j .blocks)) (j .size) (j .size)
+
+-- 27 over the whole text, then 1, then the rest
+unfoldable pub jobCheck : List ℕ → Checked
+jobCheck t = must (isJob t) 27 then must (inArrays (jobOf t)) 1 then askCheck (jobOf t)
+
+-- ---- the answer
+
+-- the seeds' mask
+unfoldable pub seedWords : Job → List ℕ
+seedWords j = maskWords (j .size) (λ i. isIn i (j .seeds))
+
+-- the blocks, and the pairs that the matrix stores
+abbrev pub networkOf : Job → Network
+networkOf j = fieldNetwork (j .blocks) (stored (j .ptr) (j .cols))
+
+-- the members of the region
+abbrev pub regionOf : Job → ℕ → Bool
+regionOf j = inMask (regionWords (networkOf j) (seedWords j) (j .hops))
+
+abbrev pub frontierOf : Job → ℕ → Bool
+frontierOf j = inMask (frontierWords (networkOf j) (seedWords j) (j .hops))
+
+-- members, frontier, hops completed, pattern pointers, pattern columns
+unfoldable pub resultText : Job → List ℕ
+resultText j =
+    resultLines
+    (membersBelow (j .size) (regionOf j))
+    (membersBelow (j .size) (frontierOf j))
+    (hopsCompleted (networkOf j) (inMask (seedWords j)) (j .hops))
+    (patternPtr (j .size) (regionOf j) (stored (j .ptr) (j .cols)))
+    (patternColumns (j .size) (regionOf j) (stored (j .ptr) (j .cols)))
+
+unfoldable pub answerText : List ℕ → List ℕ
+answerText t = after (jobCheck t) (resultText (jobOf t)) refusedText
