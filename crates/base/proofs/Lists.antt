@@ -10,7 +10,7 @@ use native.Mathlib.Omega.{arith}
 use borrow.Author.Tests.{eq-eqb, eqb-true}
 use lib.Dec.{T, eqb, eqb→eq}
 use lib.ListN.{length, getD, set, take, drop, replicate, List·getD-append, drop-of-length-le, length-append, length-take, length-drop, length-replicate, take-append-drop, replicate-append-replicate}
-use lib.Seq.{slice, getD-append-add, drop-cons, take-suc, take-take, length-take-le, set-at, append-snoc, take-all, drop-length, getD-drop, getD-take, length-slice, slice-empty, drop-append-le, drop-append-add, drop-drop, ext-getD, take-append-seam, take-nil}
+use lib.Seq.{slice, getD-append-add, drop-cons, take-suc, take-take, length-take-le, set-at, append-snoc, take-all, drop-length, getD-drop, getD-take, length-slice, slice-empty, drop-append-le, drop-append-add, drop-drop, ext-getD, take-append-seam, take-nil, take-at}
 use Rattle.base.specs.Lists.{every, pairwise, isIn, sameList, listFrom, written, over, placed, overZeros, zeroed}
 use Rattle.base.proofs.Bools.{bool-ext, and-left, and-right, or-l, or-r, or-e, or-false, T-true, T-false, T-of, both-ways, lt-or-le}
 
@@ -312,6 +312,15 @@ module _ (lo : ℕ) (l : List ℕ) where
       ∙ ap (λ (x : List ℕ). x ++ drop (suc i) l) (append-assoc (take lo l) (replicate (i - lo) 0) (0 ∷ []) ∙ ap (λ (x : List ℕ). take lo l ++ x) (replicate-append-replicate {A = ℕ} (i - lo) 1 0))
       ∙ ap₂ (λ (a b : ℕ). (take lo l ++ replicate a 0) ++ drop b l) (sym n) (sym (add-one i))
 
+-- an answer's own part of the list that it was written over, and of one with zeros past it
+pub over-own : {A : Type 0} (X l : List A) (m : ℕ) → length X ≡ m → take m (over X l) ≡ X
+over-own X l m h = take-at X (drop (length X) l) m h
+
+pub zeros-own : (X l : List ℕ) (m n : ℕ) → length X ≡ m → take m (overZeros X n l) ≡ X
+zeros-own X l m n h =
+    let Z : List ℕ = replicate {A = ℕ} (n - length X) 0 in
+    ap (take m) (append-assoc X Z (drop (length (X ++ Z)) l)) ∙ take-at X (Z ++ drop (length (X ++ Z)) l) m h
+
 -- zeros past an answer that stands at the front
 pub zero-over : (X o l : List ℕ) (to n : ℕ) → take to l ≡ X → to ≡ length X → to ≤ n → drop n l ≡ drop n o → zeroed to n l ≡ overZeros X n o
 zero-over X o l to n e s h d =
@@ -319,6 +328,14 @@ zero-over X o l to n e s h d =
     let long : length (X ++ replicate {A = ℕ} (n - length X) 0) ≡ n =
     length-append X (replicate {A = ℕ} (n - length X) 0) ∙ ap (λ (k : ℕ). length X + k) (length-replicate {A = ℕ} (n - length X) 0) ∙ w in
     ap₂ (λ (x y : List ℕ). (x ++ replicate {A = ℕ} (n - to) 0) ++ y) e d ∙ ap₂ (λ (k j : ℕ). (X ++ replicate {A = ℕ} (n - k) 0) ++ drop j o) s (sym long)
+
+-- and past one that was written over the front
+pub over-zeros : (X o l : List ℕ) (to n : ℕ) → l ≡ over X o → to ≡ length X → to ≤ n → zeroed to n l ≡ overZeros X n o
+over-zeros X o l to n e s h =
+    let w : n ≡ length X + (n - length X) = omega arith in
+    let past : drop n l ≡ drop n o =
+    ap (drop n) e ∙ ap (λ (k : ℕ). drop k (over X o)) w ∙ drop-append-add X (drop (length X) o) (n - length X) ∙ drop-drop (n - length X) (length X) o ∙ ap (λ (k : ℕ). drop k o) (sym w) in
+    zero-over X o l to n (ap (take to) e ∙ over-own X o to (sym s)) s h past
 
 -- what is still to come is as it was
 pub put-ahead : {A : Type 0} (X o : List A) (k : ℕ) (d : A) → k < length X → k < length o → getD (written k X o) k d ≡ getD o k d

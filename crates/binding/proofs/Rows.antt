@@ -14,7 +14,7 @@ use Rattle.base.specs.declared.Refusal.{Refusal}
 use Rattle.base.specs.declared.Checked.{Checked}
 use Rattle.base.specs.declared.Checked.the-variants.{Accepted, Refused}
 use Rattle.base.proofs.Bools.{and-l, and-r}
-use Rattle.base.proofs.Checks.{pass, stop, last-pass, last-stop, checks-none, checks-next, checks-stop}
+use Rattle.base.proofs.Checks.{pass, stop, last-pass, last-stop, checks-none, checks-next, checks-all, checks-stop}
 use Rattle.base.proofs.Sets.{any-cong, any-none, count-member, getD-count}
 use Rattle.mask.specs.Mask.{inMask, maskWords, IsMask}
 use Rattle.mask.proofs.Masks.{mask-holds, is-of}
@@ -93,6 +93,12 @@ none-lacks n p a b same =
 pub row-agrees : (n : ℕ) (p a b : ℕ → Bool) → ((c : ℕ) → c < n → a c ≡ b c) → rowFaults n p a b ≡ Accepted
 unfolding rowFaults
 row-agrees n p a b same = sym (pass _ 23 Accepted _ (none-lacks n p a b same) (last-pass _ 24 Accepted (none-lacks n p b a (λ c l. sym (same c l))) refl))
+
+-- and so every row, where the pairs are the entries
+pub binds-itself : (n : ℕ) (p : ℕ → Bool) (s : ℕ → ℕ → Bool) → bindingCheck n p s s ≡ Accepted
+unfolding bindingCheck
+binds-itself n p s =
+    checks-all (countBelow n p) (λ k. rowFaults n p (s (memberAt n p k)) (s (memberAt n p k))) (λ k h. row-agrees n p (s (memberAt n p k)) (s (memberAt n p k)) (λ c l. refl))
 
 -- ---- the members' rows
 

@@ -5,6 +5,7 @@ use mathlib.Core.List.{List}
 use Prim.Native.Nat.{ℕ, zero, suc, _+_, _-_, _≤_, _<_}
 use native.Mathlib.Omega.{arith}
 use native.Mathlib.Nat.{le-refl}
+use lib.Dec.{T}
 use lib.ListN.{getD}
 use Rattle.base.specs.Checks.{entryLimit, after}
 use Rattle.base.specs.Sets.{one-if, sumBelow, sumOver, countBelow}
@@ -22,7 +23,7 @@ use Rattle.pattern.specs.Pattern.{inside, pairsInside}
 use Rattle.pattern.proofs.Walks.{sum-first, sum-turn, sum-room, count-first, count-turn}
 use Rattle.pattern.proofs.Counting.{kept-within}
 use Rattle.binding.specs.Binding.{rowFaults, bindingCheck}
-use Rattle.binding.specs.Steps.{rowSources, rowCounts, countsOf}
+use Rattle.binding.specs.Steps.{rowSources, rowCounts, countsOf, sourcesInside}
 use Rattle.binding.specs.declared.RowCounts.{RowCounts}
 use Rattle.binding.specs.declared.RowBinding.{RowBinding}
 use Rattle.binding.specs.declared.Counts.{Counts}
@@ -81,6 +82,26 @@ rows-within n p ptr cols matrix (suc k) h =
     let e : k + 1 ≡ suc k = omega arith in
     subst (λ (x : ℕ). sumBelow x (rowSources p ptr cols) ≤ getD ptr x 0) e
     (omega (arith, rows-within n p ptr cols matrix k (omega arith), sum-suc k (rowSources p ptr cols), count-le (getD ptr (k + 1) 0 - getD ptr k 0) (λ j. p (getD cols (getD ptr k 0 + j) 0)), matrix .rises k (omega arith)))
+
+-- the entries of the members below r are counted
+pub record Counting (n : ℕ) (region ptr cols : List ℕ) (sources r : ℕ) : Type 0 where
+  pub within : r ≤ n
+  pub member : r < n → T (inMask region r)
+  pub by-sources : sources ≡ sumOver r (inMask region) (rowSources (inMask region) ptr cols)
+
+module _ (n : ℕ) (region ptr cols : List ℕ) where
+  pub sources-first : (r : ℕ) → Next n region 0 r → Counting n region ptr cols 0 r
+  sources-first r next = record { within = next .within; member = next .member; by-sources = sum-first n region r (rowSources (inMask region) ptr cols) next }
+
+  pub sources-last : (sources r : ℕ) → Counting n region ptr cols sources r → n ≤ r → sources ≡ sourcesInside n (inMask region) ptr cols
+  sources-last sources r w l = let e : r ≡ n = omega (arith, w .within) in w .by-sources ∙ ap (λ (k : ℕ). sumOver k (inMask region) (rowSources (inMask region) ptr cols)) e
+
+  module _ (sources r row : ℕ) (w : Counting n region ptr cols sources r) (l : r < n) (e : row ≡ rowSources (inMask region) ptr cols r) where
+    pub sources-room : IsMatrix n n ptr cols → sources + row ≤ entryLimit
+    sources-room m = omega (arith, w .by-sources, e, sum-room n region r (rowSources (inMask region) ptr cols) l, rows-within n (inMask region) ptr cols m n (le-refl n), m .ends, m .few-entries)
+
+    pub sources-turn : (r′ : ℕ) → Next n region (r + 1) r′ → Counting n region ptr cols (sources + row) r′
+    sources-turn r′ next = record { within = next .within; member = next .member; by-sources = ap₂ _+_ (w .by-sources) e ∙ sum-turn n region r r′ (rowSources (inMask region) ptr cols) (w .member l) next }
 
 module _ (n : ℕ) (region wordPtr idx masks ptr cols : List ℕ) where
   abbrev p : ℕ → Bool

@@ -26,7 +26,7 @@ ghost use Rattle.side.specs.Side.{sideHolds};
 ghost use Rattle.side.specs.Check.{IsSide};
 ghost use Rattle.pattern.specs.Pattern.{inside};
 ghost use Rattle.binding.specs.Binding.{rowFaults, bindingCheck};
-ghost use Rattle.binding.specs.Steps.{Entries, RunOf, Followed, hasPair, rowCounts, countsOf};
+ghost use Rattle.binding.specs.Steps.{Entries, RunOf, Followed, hasPair, rowCounts, countsOf, sourcesInside};
 
 // The entries from `from` on that lie in the word, up to the first that does not; `inside` is the region's word. A column is a pair at its first
 // entry, where its bit is not yet taken. No branch tells a member and no bits are counted at the end: the members of a region follow no order, and
@@ -292,6 +292,22 @@ fn count_inside(n: usize, region: &[u64], col_idx: &[u32], from: usize, to: usiz
         e += 1;
     }
     count
+}
+
+// How many entries of the members' rows have their column inside the region.
+pub fn count_sources(n: usize, region: &[u64], row_ptr: &[u32], col_idx: &[u32]) -> usize
+    requires { ⌜ IsMatrix n n (now «row_ptr») (now «col_idx») × IsMask n (now region) ⌝ }
+    ensures { λ k. ⌜ k ≡ sourcesInside n (inMask (now (region .entry))) (now («row_ptr» .entry)) (now («col_idx» .entry)) ⌝ }
+{
+    let mut sources: usize = 0;
+    let mut r = mask::inner::next_member(n, region, 0);
+    while r < n {
+        let from = row_ptr[r] as usize;
+        let to = row_ptr[r + 1] as usize;
+        sources += count_inside(n, region, col_idx, from, to);
+        r = mask::inner::next_member(n, region, r + 1);
+    }
+    sources
 }
 
 // Row r in one pass where its words are its entries; any other is checked, then counted.

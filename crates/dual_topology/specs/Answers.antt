@@ -2,7 +2,7 @@
 -- holds; row k of its columns is that set turned round.
 use mathlib.Core.Bool.{Bool, _&&_}
 use mathlib.Core.List.{List}
-use Prim.Native.Nat.{ℕ, _+_}
+use Prim.Native.Nat.{ℕ, _+_, _*_}
 use lib.Dec.{leb, ltb}
 use lib.Ieee.{Float}
 use lib.ListN.{length, replicate}
@@ -29,13 +29,18 @@ use Rattle.dual_topology.specs.declared.RowWord.{RowWord}
 
 -- ---- from_csr32: the matrix, 25; both sides, the counts, scratch zero
 
+-- 25: what the lists of both sides and the two of scratch need, against the lengths that they have
+abbrev pub buildRoom : ℕ → ℕ → ℕ → ℕ → ℕ → ℕ → ℕ → ℕ → ℕ → ℕ → ℕ → Checked
+buildRoom nrows ncols entries rptr ridx rmasks cptr cidx cmasks starts order =
+    sideRoom nrows entries rptr ridx rmasks
+    then sideRoom ncols entries cptr cidx cmasks
+    then must (ltb ncols starts) 25
+    then must (leb entries order) 25
+
 unfoldable pub buildCheck : ℕ → ℕ → List ℕ → List ℕ → List Float → List ℕ → List ℕ → List ℕ → List ℕ → List ℕ → List ℕ → List ℕ → List ℕ → Checked
 buildCheck nrows ncols ptr cols values rptr ridx rmasks cptr cidx cmasks starts order =
     matrixCheck nrows ncols ptr cols values
-    then sideRoom nrows (length cols) (length rptr) (length ridx) (length rmasks)
-    then sideRoom ncols (length cols) (length cptr) (length cidx) (length cmasks)
-    then must (ltb ncols (length starts)) 25
-    then must (leb (length cols) (length order)) 25
+    then buildRoom nrows ncols (length cols) (length rptr) (length ridx) (length rmasks) (length cptr) (length cidx) (length cmasks) (length starts) (length order)
 
 abbrev pub countsOf : ℕ → ℕ → (ℕ → ℕ → Bool) → TopologyCounts
 countsOf nrows ncols s =
@@ -53,6 +58,17 @@ scratch check needed out = leaves check (over (replicate needed 0) out) out
 abbrev pub statsOf : ℕ → ℕ → List ℕ → List ℕ → List ℕ → ℕ → List ℕ → List ℕ → List ℕ → AbtmDualTopologyStats
 statsOf nrows ncols ptr idx masks pairs ptr2 idx2 masks2 =
     record { nrows = nrows; ncols = ncols; «structural_nnz» = pairs; «row_metadata_bytes» = bytesOf ptr idx masks; «column_metadata_bytes» = bytesOf ptr2 idx2 masks2 }
+
+-- the same of a built topology, by its counts: a mask for each word
+abbrev pub countedStats : ℕ → ℕ → TopologyCounts → AbtmDualTopologyStats
+countedStats nrows ncols counts =
+    record {
+      nrows = nrows;
+      ncols = ncols;
+      «structural_nnz» = counts .pairs;
+      «row_metadata_bytes» = 4 * (nrows + 1) + 4 * counts .«row_words» + 8 * counts .«row_words»;
+      «column_metadata_bytes» = 4 * (ncols + 1) + 4 * counts .«column_words» + 8 * counts .«column_words»;
+    }
 
 abbrev pub statsAnswer : Checked → AbtmDualTopologyStats → DualStated
 statsAnswer check stats = after check (DualStated.Stats stats) DualStated.Refused

@@ -1,5 +1,7 @@
 // The work on a topology, for callers that have checked: no part of the API.
+use crate::AbtmDualTopologyStats;
 use crate::TopologyCounts;
+use base::Checked;
 use side::Fault;
 use side::SideCounts;
 ghost use mathlib.Core.Path.{_≡_};
@@ -12,7 +14,7 @@ ghost use Rattle.csr32.specs.Matrix.{stored, IsMatrix};
 ghost use Rattle.side.specs.Side.{flip, sidePtr, sideWords, sideMasks, sideCounts};
 ghost use Rattle.side.specs.Check.{bitsIn, IsSide};
 ghost use Rattle.dual_topology.specs.Check.{sidesAgree, topologyFault};
-ghost use Rattle.dual_topology.specs.Answers.{countsOf};
+ghost use Rattle.dual_topology.specs.Answers.{buildRoom, countsOf, countedStats};
 
 // Whether two sides without fault are each other's transpose.
 fn agreement(
@@ -114,6 +116,45 @@ pub fn fault(
     }
 }
 
+// The lengths of the eight lists that a building takes.
+pub fn check_room(
+    nrows: usize,
+    ncols: usize,
+    entries: usize,
+    row_pointers: usize,
+    row_words: usize,
+    row_masks: usize,
+    column_pointers: usize,
+    column_words: usize,
+    column_masks: usize,
+    starts: usize,
+    order: usize,
+) -> Checked
+    ensures { λ r. ⌜ r ≡ buildRoom nrows ncols entries «row_pointers» «row_words» «row_masks» «column_pointers» «column_words» «column_masks» starts order ⌝ }
+{
+    match side::inner::check_room(nrows, entries, row_pointers, row_words, row_masks) {
+        Checked::Refused(r) => Checked::Refused(r),
+        Checked::Accepted => match side::inner::check_room(
+            ncols,
+            entries,
+            column_pointers,
+            column_words,
+            column_masks,
+        ) {
+            Checked::Refused(r) => Checked::Refused(r),
+            Checked::Accepted => {
+                if ncols >= starts {
+                    return base::refused(25);
+                }
+                if entries > order {
+                    return base::refused(25);
+                }
+                Checked::Accepted
+            }
+        },
+    }
+}
+
 // The columns side of a checked matrix: its transpose, and the side of that. The scratch is zero at the end.
 fn build_columns(
     nrows: usize,
@@ -202,5 +243,22 @@ pub fn build(
         row_words: rows.words,
         column_words: columns.words,
         pairs: rows.pairs,
+    }
+}
+
+// The statistics of a built topology.
+pub fn stats(nrows: usize, ncols: usize, counts: TopologyCounts) -> AbtmDualTopologyStats
+    requires { ⌜ (nrows ≤ sideLimit) × (ncols ≤ sideLimit) × (counts .«row_words» ≤ entryLimit) × (counts .«column_words» ≤ entryLimit) × (counts .pairs ≤ entryLimit) ⌝ }
+    ensures { λ r. ⌜ r ≡ countedStats nrows ncols counts ⌝ }
+{
+    AbtmDualTopologyStats {
+        nrows: nrows as u32,
+        ncols: ncols as u32,
+        structural_nnz: counts.pairs as u32,
+        row_metadata_bytes: (4 * (nrows + 1) as u64 + 4 * counts.row_words + 8 * counts.row_words)
+            as u32,
+        column_metadata_bytes: (4 * (ncols + 1) as u64
+            + 4 * counts.column_words
+            + 8 * counts.column_words) as u32,
     }
 }

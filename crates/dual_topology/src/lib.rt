@@ -100,33 +100,19 @@ fn check_build(
 {
     match csr32::validate(nrows, ncols, row_ptr, col_idx, values) {
         Checked::Refused(r) => Checked::Refused(r),
-        Checked::Accepted => match side::inner::check_room(
+        Checked::Accepted => inner::check_room(
             nrows,
+            ncols,
             col_idx.len(),
             row_word_ptr.len(),
             row_word_indices.len(),
             row_masks.len(),
-        ) {
-            Checked::Refused(r) => Checked::Refused(r),
-            Checked::Accepted => match side::inner::check_room(
-                ncols,
-                col_idx.len(),
-                column_word_ptr.len(),
-                column_word_indices.len(),
-                column_masks.len(),
-            ) {
-                Checked::Refused(r) => Checked::Refused(r),
-                Checked::Accepted => {
-                    if ncols >= starts.len() {
-                        return base::refused(25);
-                    }
-                    if col_idx.len() > order.len() {
-                        return base::refused(25);
-                    }
-                    Checked::Accepted
-                }
-            },
-        },
+            column_word_ptr.len(),
+            column_word_indices.len(),
+            column_masks.len(),
+            starts.len(),
+            order.len(),
+        ),
     }
 }
 

@@ -13,7 +13,7 @@ use Rattle.base.specs.declared.Checked.{Checked}
 use Rattle.base.proofs.Checks.{pass, stop, last-pass, last-stop, passed, length-passed, both-passed}
 use Rattle.dof_layout.specs.Layout.{startOf, totalOf, IsLayout}
 use Rattle.dof_layout.proofs.Layouts.{start-next, start-mono, accepted-layout}
-use Rattle.field_region.specs.Owners.{firstOwner, sameOwner, ownerCheck, ownersCheck}
+use Rattle.field_region.specs.Owners.{firstOwner, sameOwner, ownerCheck, ownedCheck, ownersCheck}
 
 -- ---- a block's owners
 
@@ -45,13 +45,19 @@ module _ (components owners : List ℕ) (b : ℕ) where
 
 -- ---- what acceptance gives
 
+pub accepted-owned : (components owners : List ℕ) (ranks room : ℕ) → ownedCheck components owners ranks room ≡ Checked.Accepted → (length owners ≡ totalOf components) × (length components ≤ room)
+unfolding ownedCheck
+accepted-owned components owners ranks room e =
+    let q = both-passed _ _ e in
+    let r = both-passed _ _ (q .1) in
+    let s = both-passed _ _ (r .1) in
+    (length-passed _ _ (q .0), leb-true _ _ (passed _ _ (s .1)))
+
 pub accepted-owners : (kinds ids fields components offsets owners : List ℕ) (ranks : ℕ) (out : List ℕ)
     → ownersCheck kinds ids fields components offsets owners ranks out ≡ Checked.Accepted
     → IsLayout kinds ids fields components offsets × (length owners ≡ totalOf components) × (length components ≤ length out)
 unfolding ownersCheck
 accepted-owners kinds ids fields components offsets owners ranks out e =
     let p = both-passed _ _ e in
-    let q = both-passed _ _ (p .1) in
-    let r = both-passed _ _ (q .1) in
-    let s = both-passed _ _ (r .1) in
-    (accepted-layout kinds ids fields components offsets (p .0), length-passed _ _ (q .0), leb-true _ _ (passed _ _ (s .1)))
+    let q = accepted-owned components owners ranks (length out) (p .1) in
+    (accepted-layout kinds ids fields components offsets (p .0), q .0, q .1)

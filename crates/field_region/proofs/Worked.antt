@@ -22,7 +22,7 @@ use Rattle.growth.specs.Lent.{masksRoom, regionLeft, frontierLeft, scratchLeft}
 use Rattle.field_region.specs.declared.FieldAwareRegionStats.{FieldAwareRegionStats}
 use Rattle.field_region.specs.declared.FieldGrown.{FieldGrown}
 use Rattle.field_region.specs.Closure.{closeCheck, closeAnswer, closeWords}
-use Rattle.field_region.specs.Owners.{sameOwner, ownerCheck, ownersCheck, ownersAnswer, ownersList}
+use Rattle.field_region.specs.Owners.{sameOwner, ownerCheck, ownedCheck, ownersCheck, ownersAnswer, ownersList}
 use Rattle.field_region.specs.Growth.{fieldGrowCheck, fieldGrowAnswer}
 
 -- ---- growth
@@ -210,7 +210,7 @@ pub record BlockOwners : Type 0 where
   pub kept : owned (1 ∷ 1 ∷ 0 ∷ []) 4 (9 ∷ []) ≡ 9 ∷ []
 
 pub block-owners : BlockOwners
-unfolding must mustBe _then_ checksBelow listFrom sameList anyBelow everyBelow sumBelow startOf offsetsOf isKind sameKey blockCheck blocksCheck layoutCheck sameOwner ownerCheck ownersCheck
+unfolding must mustBe _then_ checksBelow listFrom sameList anyBelow everyBelow sumBelow startOf offsetsOf isKind sameKey blockCheck blocksCheck layoutCheck sameOwner ownerCheck ownersCheck ownedCheck
 block-owners = record {
   owners = refl;
   blocks = refl;

@@ -23,13 +23,17 @@ sameOwner components owners b = everyBelow (getD components b 0) (λ j. eqb (get
 unfoldable pub ownerCheck : List ℕ → List ℕ → ℕ → ℕ → Checked
 ownerCheck components owners ranks b = must (ltb (firstOwner components owners b) ranks) 20 then must (sameOwner components owners b) 21
 
-unfoldable pub ownersCheck : List ℕ → List ℕ → List ℕ → List ℕ → List ℕ → List ℕ → ℕ → List ℕ → Checked
-ownersCheck kinds ids fields components offsets owners ranks out =
-    layoutCheck kinds ids fields components offsets
-    then mustBe (totalOf components) (length owners)
+-- what follows the layout, `room` being the list's length
+unfoldable pub ownedCheck : List ℕ → List ℕ → ℕ → ℕ → Checked
+ownedCheck components owners ranks room =
+    mustBe (totalOf components) (length owners)
     then must (not (eqb ranks 0)) 19
     then checksBelow (length components) (ownerCheck components owners ranks)
-    then must (leb (length components) (length out)) 25
+    then must (leb (length components) room) 25
+
+unfoldable pub ownersCheck : List ℕ → List ℕ → List ℕ → List ℕ → List ℕ → List ℕ → ℕ → List ℕ → Checked
+ownersCheck kinds ids fields components offsets owners ranks out =
+    layoutCheck kinds ids fields components offsets then ownedCheck components owners ranks (length out)
 
 -- how many blocks there are, and so owners
 abbrev pub ownersAnswer : Checked → List ℕ → Counted

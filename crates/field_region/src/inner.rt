@@ -1,5 +1,6 @@
 // The work on field blocks, for callers that have checked: no part of the API.
 use crate::BlocksGrown;
+use crate::FieldAwareRegionStats;
 use base::Checked;
 use growth::Grown;
 use word::AbtmTopologyWord;
@@ -7,7 +8,7 @@ ghost use mathlib.Core.Path.{_≡_};
 ghost use mathlib.Core.Bool.{false};
 ghost use Prim.Native.Nat.{ℕ, _+_, _-_, _<_, _≤_};
 ghost use lib.Dec.{eqb};
-ghost use lib.ListN.{length, getD};
+ghost use lib.ListN.{length, getD, replicate};
 ghost use Rattle.base.specs.Checks.{checksBelow, sideLimit};
 ghost use Rattle.base.specs.Lists.{over};
 ghost use Rattle.base.specs.Sets.{everyBelow, countBelow};
@@ -16,9 +17,9 @@ ghost use Rattle.dof_layout.specs.Layout.{startOf, totalOf, offsetsOf};
 ghost use Rattle.side.specs.Side.{sideHolds};
 ghost use Rattle.dual_topology.specs.Check.{IsTopology};
 ghost use Rattle.graph.specs.Network.{fieldNetwork, regionWords, frontierWords};
-ghost use Rattle.field_region.specs.Growth.{blocksGrownBy};
+ghost use Rattle.field_region.specs.Growth.{blocksGrownBy, fieldStats};
 ghost use Rattle.field_region.specs.Closure.{closedWords};
-ghost use Rattle.field_region.specs.Owners.{ownerCheck, ownersOf};
+ghost use Rattle.field_region.specs.Owners.{ownerCheck, ownedCheck, ownersOf};
 
 // The blocks of the mask's nodes are taken whole, in place. The scan of a block stops at its first selected bit.
 pub fn close_in_place(components: &[u32], offsets: &[u64], words: &mut [u64])
@@ -91,6 +92,35 @@ pub fn check_blocks(components: &[u32], offsets: &[u64], dof_owners: &[u32], ran
         b += 1;
     }
     Checked::Accepted
+}
+
+// The owners' length, the ranks, block by block, the length of the list: all but the layout.
+pub fn check_owned(
+    components: &[u32],
+    offsets: &[u64],
+    dof_owners: &[u32],
+    ranks: u32,
+    room: usize,
+) -> Checked
+    requires { ⌜ (now offsets ≡ offsetsOf (now components)) × (totalOf (now components) ≤ sideLimit) × ((b : ℕ) → b < length (now components) → 0 < getD (now components) b 0) ⌝ }
+    ensures { λ r. ⌜ r ≡ ownedCheck (now (components .entry)) (now («dof_owners» .entry)) ranks room ⌝ }
+{
+    let total = offsets[components.len()] as usize;
+    if dof_owners.len() != total {
+        return base::wrong_length(total, dof_owners.len());
+    }
+    if ranks == 0 {
+        return base::refused(19);
+    }
+    match check_blocks(components, offsets, dof_owners, ranks) {
+        Checked::Refused(r) => Checked::Refused(r),
+        Checked::Accepted => {
+            if components.len() > room {
+                return base::refused(25);
+            }
+            Checked::Accepted
+        }
+    }
 }
 
 // Each block's first owner at the front of `out`, which has room for them.
@@ -178,5 +208,58 @@ pub fn grow_blocks(
     BlocksGrown {
         closed_seeds,
         grown: Grown { hops: k, visits },
+    }
+}
+
+// A growth and its statistics, on lists that reach their needed lengths; `scratch` is left zero.
+pub fn grow(
+    n: usize,
+    row_word_ptr: &[u32],
+    row_word_indices: &[u32],
+    row_masks: &[u64],
+    column_word_ptr: &[u32],
+    column_word_indices: &[u32],
+    column_masks: &[u64],
+    components: &[u32],
+    offsets: &[u64],
+    seeds: &[u64],
+    hops: u64,
+    region: &mut [u64],
+    frontier: &mut [u64],
+    scratch: &mut [u64],
+) -> FieldAwareRegionStats
+    requires { ⌜ (n ≡ totalOf (now components)) × IsTopology (totalOf (now components)) (totalOf (now components)) (now «row_word_ptr») (now «row_word_indices») (now «row_masks») (now «column_word_ptr») (now «column_word_indices») (now «column_masks») × (now offsets ≡ offsetsOf (now components)) × ((b : ℕ) → b < length (now components) → 0 < getD (now components) b 0) × IsMask (totalOf (now components)) (now seeds) × (wordsFor (totalOf (now components)) ≤ length (now region)) × (wordsFor (totalOf (now components)) ≤ length (now frontier)) × (wordsFor (totalOf (now components)) ≤ length (now scratch)) ⌝ }
+    ensures { λ r. ⌜ r ≡ fieldStats (fieldNetwork (now (components .entry)) (sideHolds (now («row_word_ptr» .entry)) (now («row_word_indices» .entry)) (now («row_masks» .entry)))) (now (seeds .entry)) hops ⌝ }
+    ensures inside { λ _. ⌜ now (region .exit) ≡ over (regionWords (fieldNetwork (now (components .entry)) (sideHolds (now («row_word_ptr» .entry)) (now («row_word_indices» .entry)) (now («row_masks» .entry)))) (now (seeds .entry)) hops) (now (region .entry)) ⌝ }
+    ensures edge { λ _. ⌜ now (frontier .exit) ≡ over (frontierWords (fieldNetwork (now (components .entry)) (sideHolds (now («row_word_ptr» .entry)) (now («row_word_indices» .entry)) (now («row_masks» .entry)))) (now (seeds .entry)) hops) (now (frontier .entry)) ⌝ }
+    ensures spent { λ _. ⌜ now (scratch .exit) ≡ over (replicate (wordsFor (totalOf (now (components .entry)))) 0) (now (scratch .entry)) ⌝ }
+{
+    let need = mask::inner::words_for(n);
+    let blocks = grow_blocks(
+        row_word_ptr,
+        row_word_indices,
+        row_masks,
+        column_word_ptr,
+        column_word_indices,
+        column_masks,
+        components,
+        offsets,
+        seeds,
+        hops,
+        &mut region[..need],
+        &mut frontier[..need],
+        &mut scratch[..need],
+    );
+    FieldAwareRegionStats {
+        hops_requested: hops,
+        hops_completed: blocks.grown.hops,
+        seed_dofs: mask::inner::count(n, seeds),
+        block_closed_seed_dofs: blocks.closed_seeds,
+        region_dofs: mask::inner::count(n, &region[..need]),
+        region_blocks: count_blocks(components, offsets, &region[..need]),
+        frontier_dofs_visited: blocks.grown.visits.nodes,
+        row_words_visited: blocks.grown.visits.row_words,
+        column_words_visited: blocks.grown.visits.column_words,
+        candidate_neighbor_bits: blocks.grown.visits.candidate_bits,
     }
 }

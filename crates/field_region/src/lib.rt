@@ -104,7 +104,7 @@ pub fn close_to_field_blocks(
     }
 }
 
-// The layout, the owners' length, the ranks, block by block, the length of the list.
+// The layout, then what its owners must be.
 fn check_owners(
     entity_kinds: &[u8],
     entity_ids: &[u64],
@@ -120,22 +120,7 @@ fn check_owners(
     match dof_layout::check(entity_kinds, entity_ids, field_ids, components, offsets) {
         Checked::Refused(r) => Checked::Refused(r),
         Checked::Accepted => {
-            let total = offsets[components.len()] as usize;
-            if dof_owners.len() != total {
-                return base::wrong_length(total, dof_owners.len());
-            }
-            if ranks == 0 {
-                return base::refused(19);
-            }
-            match inner::check_blocks(components, offsets, dof_owners, ranks) {
-                Checked::Refused(r) => Checked::Refused(r),
-                Checked::Accepted => {
-                    if components.len() > out.len() {
-                        return base::refused(25);
-                    }
-                    Checked::Accepted
-                }
-            }
+            inner::check_owned(components, offsets, dof_owners, ranks, out.len())
         }
     }
 }
@@ -290,35 +275,21 @@ pub fn grow_field_aware_region(
         scratch,
     ) {
         Checked::Refused(r) => FieldGrown::Refused(r),
-        Checked::Accepted => {
-            let need = mask::inner::words_for(nrows);
-            let blocks = inner::grow_blocks(
-                row_word_ptr,
-                row_word_indices,
-                row_masks,
-                column_word_ptr,
-                column_word_indices,
-                column_masks,
-                components,
-                offsets,
-                words,
-                hops,
-                &mut region[..need],
-                &mut frontier[..need],
-                &mut scratch[..need],
-            );
-            FieldGrown::Grown(FieldAwareRegionStats {
-                hops_requested: hops,
-                hops_completed: blocks.grown.hops,
-                seed_dofs: mask::inner::count(nrows, words),
-                block_closed_seed_dofs: blocks.closed_seeds,
-                region_dofs: mask::inner::count(nrows, &region[..need]),
-                region_blocks: inner::count_blocks(components, offsets, &region[..need]),
-                frontier_dofs_visited: blocks.grown.visits.nodes,
-                row_words_visited: blocks.grown.visits.row_words,
-                column_words_visited: blocks.grown.visits.column_words,
-                candidate_neighbor_bits: blocks.grown.visits.candidate_bits,
-            })
-        }
+        Checked::Accepted => FieldGrown::Grown(inner::grow(
+            nrows,
+            row_word_ptr,
+            row_word_indices,
+            row_masks,
+            column_word_ptr,
+            column_word_indices,
+            column_masks,
+            components,
+            offsets,
+            words,
+            hops,
+            region,
+            frontier,
+            scratch,
+        )),
     }
 }

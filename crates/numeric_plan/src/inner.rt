@@ -1,4 +1,7 @@
-// A plan's lists, written for callers that have checked: no part of the API.
+// A plan's room, lists and statistics, for callers that have checked: no part of the API.
+use crate::AbtmLocalNumericPlanStats;
+use base::Checked;
+use binding::Counts;
 use sources::RowEnd;
 ghost use mathlib.Core.Path.{_≡_};
 ghost use mathlib.Core.List.{map};
@@ -7,7 +10,6 @@ ghost use lib.Dec.{T};
 ghost use lib.ListN.{length};
 ghost use Rattle.base.specs.Lists.{joinBelow, over, placed};
 ghost use Rattle.base.specs.Sets.{countBelow, membersBelow};
-ghost use Rattle.base.specs.declared.Checked.{Checked};
 ghost use Rattle.mask.specs.Mask.{inMask, IsMask};
 ghost use Rattle.csr32.specs.Matrix.{stored, IsMatrix};
 ghost use Rattle.side.specs.Side.{sideHolds};
@@ -17,7 +19,51 @@ ghost use Rattle.sources.specs.Steps.{endsFrom, Put};
 ghost use Rattle.binding.specs.Binding.{bindingCheck};
 ghost use Rattle.gather.specs.Plan.{planSources, planPtr};
 ghost use Rattle.numeric_plan.specs.Plan.{pairEntries};
-ghost use Rattle.numeric_plan.specs.Steps.{rowEntries, Tables, RowRoom, Marked};
+ghost use Rattle.numeric_plan.specs.Steps.{rowEntries, Tables, RowRoom, Marked, planRoomFor, Small, statsOf};
+
+// The lengths of the lists.
+pub fn check_room(
+    counts: Counts,
+    nodes: usize,
+    pointers: usize,
+    columns: usize,
+    source_pointers: usize,
+    sources: usize,
+) -> Checked
+    ensures { λ r. ⌜ r ≡ planRoomFor counts nodes pointers columns «source_pointers» sources ⌝ }
+{
+    match pattern::inner::check_room(counts.members, counts.pairs, nodes, pointers, columns) {
+        Checked::Refused(r) => Checked::Refused(r),
+        Checked::Accepted => {
+            if counts.pairs >= source_pointers {
+                return base::refused(25);
+            }
+            if counts.sources > sources {
+                return base::refused(25);
+            }
+            Checked::Accepted
+        }
+    }
+}
+
+// With no pair without a source, as many sources as pairs are one each.
+pub fn stats(counts: Counts) -> AbtmLocalNumericPlanStats
+    requires { ⌜ Small counts ⌝ }
+    ensures { λ r. ⌜ r ≡ statsOf counts ⌝ }
+{
+    AbtmLocalNumericPlanStats {
+        local_nodes: counts.members as u32,
+        local_nnz: counts.pairs as u32,
+        source_terms: counts.sources as u32,
+        duplicate_source_terms: (counts.sources - counts.pairs) as u32,
+        direct_source_map: counts.sources == counts.pairs,
+        plan_bytes: (4 * counts.members
+            + 4 * (counts.members + 1)
+            + 4 * counts.pairs
+            + 4 * (counts.pairs + 1)
+            + 4 * counts.sources) as u32,
+    }
+}
 
 // Row r, whose pairs inside are its entries: its columns by number from `first` on, their sources from `at` on, of `most` in all, and where each
 // one's end. Rows that `paired` does not mark have nothing to write. The entries inside are chosen first; where their columns rise the pairs follow

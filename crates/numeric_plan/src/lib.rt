@@ -2,7 +2,6 @@
 use base::Checked;
 use base::Refusal;
 use binding::Binding;
-use binding::Counts;
 ghost use mathlib.Core.Path.{_≡_};
 ghost use Rattle.base.specs.Checks.{_then_, after};
 ghost use lib.ListN.{replicate, take};
@@ -13,7 +12,6 @@ ghost use Rattle.dual_topology.specs.Check.{topologyCheck};
 ghost use Rattle.pattern.specs.Pattern.{regionCheck, nodesLeft, ptrLeft, columnsLeft};
 ghost use Rattle.binding.specs.Steps.{countsOf, hasPair};
 ghost use Rattle.numeric_plan.specs.Plan.{pairEntries, sidesCheck, planInputs, planCheck, planAnswer, sourcePtrLeft, sourcesLeft};
-ghost use Rattle.numeric_plan.specs.Steps.{planRoomFor, Small, statsOf};
 
 pub mod inner;
 
@@ -147,50 +145,6 @@ fn check_inputs(
     }
 }
 
-// The lengths of the lists.
-fn check_room(
-    counts: Counts,
-    nodes: usize,
-    pointers: usize,
-    columns: usize,
-    source_pointers: usize,
-    sources: usize,
-) -> Checked
-    ensures { λ r. ⌜ r ≡ planRoomFor counts nodes pointers columns «source_pointers» sources ⌝ }
-{
-    match pattern::inner::check_room(counts.members, counts.pairs, nodes, pointers, columns) {
-        Checked::Refused(r) => Checked::Refused(r),
-        Checked::Accepted => {
-            if counts.pairs >= source_pointers {
-                return base::refused(25);
-            }
-            if counts.sources > sources {
-                return base::refused(25);
-            }
-            Checked::Accepted
-        }
-    }
-}
-
-// With no pair without a source, as many sources as pairs are one each.
-fn stats(counts: Counts) -> AbtmLocalNumericPlanStats
-    requires { ⌜ Small counts ⌝ }
-    ensures { λ r. ⌜ r ≡ statsOf counts ⌝ }
-{
-    AbtmLocalNumericPlanStats {
-        local_nodes: counts.members as u32,
-        local_nnz: counts.pairs as u32,
-        source_terms: counts.sources as u32,
-        duplicate_source_terms: (counts.sources - counts.pairs) as u32,
-        direct_source_map: counts.sources == counts.pairs,
-        plan_bytes: (4 * counts.members
-            + 4 * (counts.members + 1)
-            + 4 * counts.pairs
-            + 4 * (counts.pairs + 1)
-            + 4 * counts.sources) as u32,
-    }
-}
-
 // The local pattern of the region, and for each of its pairs the entries of the matrix that it is summed from.
 pub fn prepare_local_numeric_plan(
     nrows: usize,
@@ -249,7 +203,7 @@ pub fn prepare_local_numeric_plan(
         &mut paired,
     ) {
         Binding::Refused(r) => PlanPrepared::Refused(r),
-        Binding::Bound(counts) => match check_room(
+        Binding::Bound(counts) => match inner::check_room(
             counts,
             global_nodes.len(),
             local_row_ptr.len(),
@@ -276,7 +230,7 @@ pub fn prepare_local_numeric_plan(
                     source_ptr,
                     source_indices,
                 );
-                PlanPrepared::Prepared(stats(counts))
+                PlanPrepared::Prepared(inner::stats(counts))
             }
         },
     }

@@ -13,8 +13,9 @@ use Rattle.mask.specs.Mask.{inMask, maskWords}
 use Rattle.csr32.specs.Matrix.{matrixCheck, stored}
 use Rattle.dof_layout.specs.Layout.{offsetsOf}
 use Rattle.dof_layout.specs.Answers.{squareCheck}
-use Rattle.graph.specs.Network.{Network, fieldNetwork, hopsCompleted, regionWords, frontierWords}
+use Rattle.graph.specs.Network.{hopsCompleted, frontierWords}
 use Rattle.pattern.specs.Pattern.{one, patternPtr, patternColumns}
+use Rattle.prepared_field_region.specs.Prepared.{networkOf, regionOf}
 use Rattle.job_text.specs.Job.{Job, isJob, jobOf}
 use Rattle.job_text.specs.Answer.{resultLines, refusedText}
 
@@ -60,26 +61,21 @@ jobCheck t = must (isJob t) 27 then must (inArrays (jobOf t)) 1 then askCheck (j
 unfoldable pub seedWords : Job → List ℕ
 seedWords j = maskWords (j .size) (λ i. isIn i (j .seeds))
 
--- the blocks, and the pairs that the matrix stores
-abbrev pub networkOf : Job → Network
-networkOf j = fieldNetwork (j .blocks) (stored (j .ptr) (j .cols))
-
--- the members of the region
-abbrev pub regionOf : Job → ℕ → Bool
-regionOf j = inMask (regionWords (networkOf j) (seedWords j) (j .hops))
-
-abbrev pub frontierOf : Job → ℕ → Bool
-frontierOf j = inMask (frontierWords (networkOf j) (seedWords j) (j .hops))
+-- what a prepared region holds, as the five lines: side, matrix, blocks, seeds' mask, hops
+unfoldable pub regionText : ℕ → List ℕ → List ℕ → List ℕ → List ℕ → ℕ → List ℕ
+regionText n ptr cols blocks seeds h =
+    let g = networkOf ptr cols blocks in
+    let p = regionOf ptr cols blocks seeds h in
+    resultLines
+    (membersBelow n p)
+    (membersBelow n (inMask (frontierWords g seeds h)))
+    (hopsCompleted g (inMask seeds) h)
+    (patternPtr n p (stored ptr cols))
+    (patternColumns n p (stored ptr cols))
 
 -- members, frontier, hops completed, pattern pointers, pattern columns
 unfoldable pub resultText : Job → List ℕ
-resultText j =
-    resultLines
-    (membersBelow (j .size) (regionOf j))
-    (membersBelow (j .size) (frontierOf j))
-    (hopsCompleted (networkOf j) (inMask (seedWords j)) (j .hops))
-    (patternPtr (j .size) (regionOf j) (stored (j .ptr) (j .cols)))
-    (patternColumns (j .size) (regionOf j) (stored (j .ptr) (j .cols)))
+resultText j = regionText (j .size) (j .ptr) (j .cols) (j .blocks) (seedWords j) (j .hops)
 
 unfoldable pub answerText : List ℕ → List ℕ
 answerText t = after (jobCheck t) (resultText (jobOf t)) refusedText

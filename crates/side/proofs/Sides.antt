@@ -1,5 +1,5 @@
 -- An accepted side is exactly the side of its own set of pairs, and the side of a set of pairs is accepted and holds that set. Assumes nothing.
-use mathlib.Core.Path.{_≡_, sym, ap, ap₂, _∙_, subst}
+use mathlib.Core.Path.{_≡_, sym, ap, ap₂, _∙_, subst, fun-ext}
 use mathlib.Core.Logic.{_⊎_, inl, inr}
 use mathlib.Core.Bool.{Bool, true, false, not, _||_}
 use mathlib.Core.List.{List, _++_}
@@ -12,7 +12,7 @@ use lib.ListN.{length, getD, take, length-map, List·getD-eq-default}
 use lib.Seq.{slice, take-length, length-take-le, ext-getD, drop-nil}
 use Rattle.base.specs.Checks.{sideLimit, entryLimit}
 use Rattle.base.specs.Sets.{sumBelow, countBelow, one-if}
-use Rattle.base.proofs.Bools.{T-true, or-l, or-r, decide, lt-or-le}
+use Rattle.base.proofs.Bools.{T-true, T-false, or-l, or-r, decide, lt-or-le}
 use Rattle.base.proofs.Lists.{take-on, length-listFrom, getD-listFrom, rise-to, step-of}
 use Rattle.base.proofs.Joins.{join-none, join-next, join-slice, join-up, join-length, join-count}
 use Rattle.base.proofs.Sets.{every-i, sum-zero, sum-suc, sum-append, sum-cong, sum-most, sum-le, count-le, sum-swap}
@@ -95,6 +95,15 @@ module _ (ncols : ℕ) (s : ℕ → ℕ → Bool) (idx masks : List ℕ) (ends :
 
 -- ---- an accepted side
 
+-- past the last row nothing is held
+held-past : (nrows : ℕ) (ptr idx masks : List ℕ) → length ptr ≡ nrows + 1 → (r c : ℕ) → nrows ≤ r → sideHolds ptr idx masks r c ≡ false
+unfolding rowHolds maskFor
+held-past nrows ptr idx masks rows r c h =
+    let e : getD ptr (r + 1) 0 ≡ 0 = List·getD-eq-default ptr 0 (omega (arith, rows)) in
+    ap (λ (k : ℕ). bitAt (maskFor (c / 64) (slice (getD ptr r 0) k idx) (slice (getD ptr r 0) k masks)) (c % 64)) e
+    ∙ ap (λ (l : List ℕ). bitAt (maskFor (c / 64) l (slice (getD ptr r 0) 0 masks)) (c % 64)) (drop-nil (getD ptr r 0))
+    ∙ zero-bit (c % 64)
+
 module _ (nrows : ℕ) (ptr idx masks : List ℕ) (m : IsRows nrows ptr idx masks) where
   pub end-le : (r : ℕ) → r ≤ nrows → getD ptr r 0 ≤ length masks
   end-le r h = omega (arith, rise-to ptr nrows (m .rises) r nrows h (le-refl nrows), m .ends)
@@ -102,21 +111,12 @@ module _ (nrows : ℕ) (ptr idx masks : List ℕ) (m : IsRows nrows ptr idx mask
   pub end-in : (r : ℕ) → r ≤ nrows → getD ptr r 0 ≤ length idx
   end-in r h = omega (arith, end-le r h, m .as-many)
 
-  -- past the last row nothing is held
   pub held-row : (r c : ℕ) → T (sideHolds ptr idx masks r c) → r < nrows
-  unfolding rowHolds maskFor
   held-row r c t = go (lt-or-le r nrows)
     where
-      none : nrows ≤ r → sideHolds ptr idx masks r c ≡ false
-      none h =
-          let e : getD ptr (r + 1) 0 ≡ 0 = List·getD-eq-default ptr 0 (omega (arith, m .rows)) in
-          ap (λ (k : ℕ). bitAt (maskFor (c / 64) (slice (getD ptr r 0) k idx) (slice (getD ptr r 0) k masks)) (c % 64)) e
-          ∙ ap (λ (l : List ℕ). bitAt (maskFor (c / 64) l (slice (getD ptr r 0) 0 masks)) (c % 64)) (drop-nil (getD ptr r 0))
-          ∙ zero-bit (c % 64)
-
       go : (r < nrows) ⊎ (nrows ≤ r) → r < nrows
       go (inl h) = h
-      go (inr h) = absurd (subst (λ (b : Bool). T b) (none h) t)
+      go (inr h) = absurd (subst (λ (b : Bool). T b) (held-past nrows ptr idx masks (m .rows) r c h) t)
 
 module _ (nrows ncols : ℕ) (ptr idx masks : List ℕ) (m : IsSide nrows ncols ptr idx masks) where
   abbrev held : ℕ → ℕ → Bool
@@ -200,6 +200,16 @@ module _ (nrows ncols : ℕ) (s : ℕ → ℕ → Bool) (small : (r c : ℕ) →
       ap₂ (λ (a b : ℕ). rowHolds (sideWords nrows ncols s) (sideMasks nrows ncols s) a b c) (ptr-at r (omega arith)) (ptr-at (r + 1) (omega arith))
       ∙ row-holds (sideWords nrows ncols s) (sideMasks nrows ncols s) (length (sideWords r ncols s)) (length (sideWords (r + 1) ncols s))
       (join-up (r + 1) r F (omega arith)) (join-up nrows (r + 1) F (omega arith)) (in-masks (r + 1) (omega arith)) (row-in r h .rising) (s r) (row-in r h) c
+
+  -- and nothing else, where no row past its own has a pair
+  pub side-pairs : ((r c : ℕ) → T (s r c) → r < nrows) → sideHolds (sidePtr nrows ncols s) (sideWords nrows ncols s) (sideMasks nrows ncols s) ≡ s
+  side-pairs low = fun-ext (λ r. fun-ext (λ c. at r c (lt-or-le r nrows)))
+    where
+      at : (r c : ℕ) → (r < nrows) ⊎ (nrows ≤ r) → sideHolds (sidePtr nrows ncols s) (sideWords nrows ncols s) (sideMasks nrows ncols s) r c ≡ s r c
+      at r c (inl h) = side-holds r c h
+      at r c (inr h) =
+          held-past nrows (sidePtr nrows ncols s) (sideWords nrows ncols s) (sideMasks nrows ncols s) (length-listFrom (λ r. length (sideWords r ncols s)) (nrows + 1) 0) r c h
+          ∙ sym (T-false (s r c) (λ t. omega (arith, low r c t)))
 
   pub side-count : bitsIn (sideMasks nrows ncols s) 0 (length (sideMasks nrows ncols s)) ≡ pairCount nrows ncols s
   side-count =

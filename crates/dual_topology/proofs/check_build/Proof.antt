@@ -1,18 +1,10 @@
 -- `dual_topology::check_build` meets its contract. Assumes nothing.
 use borrow.Author.Needs.{needs}
+use mathlib.Core.Path.{sym, _∙_}
+use Rattle.base.proofs.Checks.{group-pass, group-stop}
+use Rattle.dual_topology.specs.Answers.{buildCheck}
 use Rattle.dual_topology.proofs.check_build.Statement.{statement}
 use Rattle.dual_topology.proofs.check_build.Tie as tie
-use Rattle.dual_topology.proofs.check_build.Reads as reads
-use Rattle.dual_topology.proofs.check_build.Lts as lts
-use Rattle.base.proofs.refused.Reads as refused-reads
-use Rattle.csr32.proofs.validate.Reads as validate-reads
-use Rattle.side.proofs.inner.check_room.Reads as check-room-reads
-use mathlib.Core.Path.{refl, sym, _∙_}
-use borrow.Author.Needs.{needs}
-use borrow.Author.Tests.{le-ltb, lt-ltb, le-leb, lt-leb}
-use Rattle.base.proofs.Checks.{group-pass, group-stop, last-pass, last-stop}
-use Rattle.base.proofs.Checks.{pass, stop}
-use Rattle.dual_topology.specs.Answers.{buildCheck}
 
 validate-requires : tie.Need-validate-requires
 validate-requires c κs = search needs
@@ -26,69 +18,15 @@ enum-told c = search needs
 check-room-requires : tie.Need-check-room-requires
 check-room-requires c κs = search needs
 
-enum-known-r-2 : tie.Need-enum-known-r-2
-enum-known-r-2 c = search needs
-
-enum-told-2 : tie.Need-enum-told-2
-enum-told-2 c = search needs
-
-check-room-requires-2 : tie.Need-check-room-requires-2
-check-room-requires-2 c κs = search needs
-
-enum-known-r-3 : tie.Need-enum-known-r-3
-enum-known-r-3 c = search needs
-
-enum-told-3 : tie.Need-enum-told-3
-enum-told-3 c = search needs
-
-refused-requires : tie.Need-refused-requires
-refused-requires c κs = search needs
-
 returns : tie.Need-returns
 unfolding buildCheck
-returns c = group-pass _ _ _ (sym (c .before .before .before .before .before .before .before .before .before .before .validate .ensures) ∙ c .before .before .before .before .before .before .before .before .enum-told .given .1) (group-pass _ _ _ (sym (c .before .before .before .before .before .before .before .check-room .ensures) ∙ c .before .before .before .before .before .enum-told2 .given .1) (group-pass _ _ _ (sym (c .before .before .before .before .check-room2 .ensures) ∙ c .before .before .enum-told3 .given .1) (stop _ _ _ _ (le-ltb _ _ (c .before .if1 .taken)) (c .refused .ensures))))
-
-refused-requires-2 : tie.Need-refused-requires-2
-refused-requires-2 c κs = search needs
+returns c = group-stop _ _ _ (sym (c .before .before .before .validate .ensures) ∙ c .before .r .given .1)
 
 returns-2 : tie.Need-returns-2
 unfolding buildCheck
-returns-2 c = group-pass _ _ _ (sym (c .before .before .before .before .before .before .before .before .before .before .before .validate .ensures) ∙ c .before .before .before .before .before .before .before .before .before .enum-told .given .1) (group-pass _ _ _ (sym (c .before .before .before .before .before .before .before .before .check-room .ensures) ∙ c .before .before .before .before .before .before .enum-told2 .given .1) (group-pass _ _ _ (sym (c .before .before .before .before .before .check-room2 .ensures) ∙ c .before .before .before .enum-told3 .given .1) (pass _ _ _ _ (lt-ltb _ _ (c .before .before .if1 .left)) (last-stop _ _ _ (lt-leb _ _ (c .before .if2 .taken)) (c .refused2 .ensures)))))
-
-returns-3 : tie.Need-returns-3
-unfolding buildCheck
-returns-3 c = group-stop _ _ _ (sym (c .before .before .before .validate .ensures) ∙ c .before .r .given .1)
-
-returns-4 : tie.Need-returns-4
-unfolding buildCheck
-returns-4 c = group-pass _ _ _ (sym (c .before .before .before .before .before .before .validate .ensures) ∙ c .before .before .before .before .enum-told .given .1) (group-stop _ _ _ (sym (c .before .before .before .check-room .ensures) ∙ c .before .r2 .given .1))
-
-returns-5 : tie.Need-returns-5
-unfolding buildCheck
-returns-5 c = group-pass _ _ _ (sym (c .before .before .before .before .before .before .before .before .before .validate .ensures) ∙ c .before .before .before .before .before .before .before .enum-told .given .1) (group-pass _ _ _ (sym (c .before .before .before .before .before .before .check-room .ensures) ∙ c .before .before .before .before .enum-told2 .given .1) (group-stop _ _ _ (sym (c .before .before .before .check-room2 .ensures) ∙ c .before .r3 .given .1)))
-
-returns-6 : tie.Need-returns-6
-unfolding buildCheck
-returns-6 c = group-pass _ _ _ (sym (c .before .before .before .before .before .before .before .before .before .before .validate .ensures) ∙ c .before .before .before .before .before .before .before .before .enum-told .given .1) (group-pass _ _ _ (sym (c .before .before .before .before .before .before .before .check-room .ensures) ∙ c .before .before .before .before .before .enum-told2 .given .1) (group-pass _ _ _ (sym (c .before .before .before .before .check-room2 .ensures) ∙ c .before .before .enum-told3 .given .1) (pass _ _ _ _ (lt-ltb _ _ (c .before .if1 .left)) (last-pass _ _ _ (le-leb _ _ (c .if2 .left)) refl))))
+returns-2 c = group-pass _ _ _ (sym (c .before .before .before .validate .ensures) ∙ c .before .enum-told .given .1) (c .check-room .ensures)
 
 pub check-build-spec : {M : Type 1} → statement M
 check-build-spec =
     tie.close
-    (tie.spec
-    validate-requires
-    enum-known-r
-    enum-told
-    check-room-requires
-    enum-known-r-2
-    enum-told-2
-    check-room-requires-2
-    enum-known-r-3
-    enum-told-3
-    refused-requires
-    returns
-    refused-requires-2
-    returns-2
-    returns-3
-    returns-4
-    returns-5
-    returns-6)
+    (tie.spec validate-requires enum-known-r enum-told check-room-requires returns returns-2)

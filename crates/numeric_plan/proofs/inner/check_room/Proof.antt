@@ -1,11 +1,11 @@
--- `numeric_plan::check_room` meets its contract. Assumes nothing.
+-- `numeric_plan::inner::check_room` meets its contract. Assumes nothing.
 use borrow.Author.Needs.{needs}
 use mathlib.Core.Path.{refl, sym, _∙_}
 use borrow.Author.Tests.{le-leb, lt-leb, lt-ltb, le-ltb}
 use Rattle.base.proofs.Checks.{pass, stop, last-pass, last-stop, group-pass, group-stop}
 use Rattle.numeric_plan.specs.Steps.{planRoomFor}
-use Rattle.numeric_plan.proofs.check_room.Statement.{statement}
-use Rattle.numeric_plan.proofs.check_room.Tie as tie
+use Rattle.numeric_plan.proofs.inner.check_room.Statement.{statement}
+use Rattle.numeric_plan.proofs.inner.check_room.Tie as tie
 
 check-room-requires : tie.Need-check-room-requires
 check-room-requires c κs = search needs

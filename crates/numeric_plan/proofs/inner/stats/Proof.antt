@@ -1,8 +1,8 @@
--- `numeric_plan::stats` meets its contract. Assumes nothing.
+-- `numeric_plan::inner::stats` meets its contract. Assumes nothing.
 use borrow.Author.Needs.{needs}
 use mathlib.Core.Path.{refl}
-use Rattle.numeric_plan.proofs.stats.Statement.{statement}
-use Rattle.numeric_plan.proofs.stats.Tie as tie
+use Rattle.numeric_plan.proofs.inner.stats.Statement.{statement}
+use Rattle.numeric_plan.proofs.inner.stats.Tie as tie
 
 cast-t2 : tie.Need-cast-t2
 cast-t2 c = search needs

@@ -1,0 +1,2 @@
+pub mod Prepared
+pub mod Steps
