@@ -77,5 +77,9 @@ regionText n ptr cols blocks seeds h =
 unfoldable pub resultText : Job → List ℕ
 resultText j = regionText (j .size) (j .ptr) (j .cols) (j .blocks) (seedWords j) (j .hops)
 
+-- on refusal only the line refused= and the number
+abbrev pub textOf : Checked → List ℕ → List ℕ
+textOf check text = after check text refusedText
+
 unfoldable pub answerText : List ℕ → List ℕ
-answerText t = after (jobCheck t) (resultText (jobOf t)) refusedText
+answerText t = textOf (jobCheck t) (resultText (jobOf t))
