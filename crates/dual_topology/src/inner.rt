@@ -255,8 +255,9 @@ pub fn stats(nrows: usize, ncols: usize, counts: TopologyCounts) -> AbtmDualTopo
         nrows: nrows as u32,
         ncols: ncols as u32,
         structural_nnz: counts.pairs as u32,
-        row_metadata_bytes: (4 * (nrows + 1) as u64 + 4 * counts.row_words + 8 * counts.row_words)
-            as u32,
+        row_metadata_bytes: (4 * (nrows + 1) as u64
+            + 4 * counts.row_words
+            + 8 * counts.row_words) as u32,
         column_metadata_bytes: (4 * (ncols + 1) as u64
             + 4 * counts.column_words
             + 8 * counts.column_words) as u32,

@@ -36,7 +36,7 @@ use Rattle.peak_job.specs.Steps.{Arrays}
 
 -- ---- the checks
 
-then-none : (g : Checked) → (g then Checked.Accepted) ≡ g
+pub then-none : (g : Checked) → (g then Checked.Accepted) ≡ g
 unfolding _then_
 then-none Checked.Accepted = refl
 then-none (Checked.Refused r) = refl
@@ -65,7 +65,7 @@ inputs-pass matrix square n words m e =
     let b = both-passed matrix square e in
     both-pass matrix (square then lengthCheck n n words) (b .0) (both-pass square (lengthCheck n n words) (b .1) (words-accepted n words m))
 
-le-25 : (a b : ℕ) → a ≤ b → must (leb a b) 25 ≡ Checked.Accepted
+pub le-25 : (a b : ℕ) → a ≤ b → must (leb a b) 25 ≡ Checked.Accepted
 le-25 a b h = sym (last-pass _ 25 _ (le-leb a b h) refl)
 
 lt-25 : (a b : ℕ) → a < b → must (ltb a b) 25 ≡ Checked.Accepted

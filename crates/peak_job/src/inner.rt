@@ -1,4 +1,5 @@
 // The steps of a job that has been read, for callers that keep its lists: no part of the API.
+use base::Checked;
 use base::Counted;
 use job_text::JobRead;
 use prepared_field_region::RegionPrepared;
@@ -14,7 +15,7 @@ ghost use Rattle.csr32.specs.Matrix.{matrixCheck};
 ghost use Rattle.dof_layout.specs.Answers.{squareCheck};
 ghost use Rattle.job_text.specs.Answer.{resultLines, textAnswer, textLeft};
 ghost use Rattle.peak_job.specs.Answer.{regionText, textOf};
-ghost use Rattle.peak_job.specs.Steps.{faultOf, Arrays};
+ghost use Rattle.peak_job.specs.Steps.{faultOf, Arrays, laidCheck, askedText, judgedText};
 
 // Each its own place.
 fn number(ids: &mut [u64])
@@ -165,4 +166,167 @@ fn prepare(
             )
         }
     }
+}
+
+// The same on arrays of its own.
+fn cut(
+    size: usize,
+    ptr: &[u32],
+    cols: &[u32],
+    values: &[f64],
+    kinds: &[u8],
+    ids: &[u64],
+    fields: &[u32],
+    blocks: &[u32],
+    offsets: &[u64],
+    words: &[u64],
+    hops: u64,
+    out: &mut [u8],
+) -> Counted
+    requires { ⌜ (size ≤ 256) × (length (now cols) ≤ 1023) × (maskCheck size (now words) ≡ Checked.Accepted) ⌝ }
+    ensures { λ r. ⌜ r ≡ textAnswer (textOf (matrixCheck size size (now (ptr .entry)) (now (cols .entry)) (now (values .entry)) then squareCheck (now (kinds .entry)) (now (ids .entry)) (now (fields .entry)) (now (blocks .entry)) (now (offsets .entry)) size size) (regionText size (now (ptr .entry)) (now (cols .entry)) (now (blocks .entry)) (now (words .entry)) hops)) (now (out .entry)) ⌝ }
+    ensures { λ _. ⌜ now (out .exit) ≡ textLeft (textOf (matrixCheck size size (now (ptr .entry)) (now (cols .entry)) (now (values .entry)) then squareCheck (now (kinds .entry)) (now (ids .entry)) (now (fields .entry)) (now (blocks .entry)) (now (offsets .entry)) size size) (regionText size (now (ptr .entry)) (now (cols .entry)) (now (blocks .entry)) (now (words .entry)) hops)) (now (out .entry)) ⌝ }
+{
+    let mut row_word_ptr: [u32; 1024] = [0; 1024];
+    let mut row_word_indices: [u32; 1024] = [0; 1024];
+    let mut row_masks: [u64; 1024] = [0; 1024];
+    let mut column_word_ptr: [u32; 1024] = [0; 1024];
+    let mut column_word_indices: [u32; 1024] = [0; 1024];
+    let mut column_masks: [u64; 1024] = [0; 1024];
+    let mut starts: [u32; 1024] = [0; 1024];
+    let mut order: [u32; 1024] = [0; 1024];
+    let mut region: [u64; 4] = [0; 4];
+    let mut frontier: [u64; 4] = [0; 4];
+    let mut scratch: [u64; 4] = [0; 4];
+    let mut members: [u32; 1024] = [0; 1024];
+    let mut local_ptr: [u32; 1024] = [0; 1024];
+    let mut local_cols: [u32; 1024] = [0; 1024];
+    let mut source_ptr: [u32; 1024] = [0; 1024];
+    let mut sources: [u32; 1024] = [0; 1024];
+    prepare(
+        size,
+        ptr,
+        cols,
+        values,
+        kinds,
+        ids,
+        fields,
+        blocks,
+        offsets,
+        words,
+        hops,
+        &mut row_word_ptr,
+        &mut row_word_indices,
+        &mut row_masks,
+        &mut column_word_ptr,
+        &mut column_word_indices,
+        &mut column_masks,
+        &mut starts,
+        &mut order,
+        &mut region,
+        &mut frontier,
+        &mut scratch,
+        &mut members,
+        &mut local_ptr,
+        &mut local_cols,
+        &mut source_ptr,
+        &mut sources,
+        out,
+    )
+}
+
+// The layout of the blocks and the matrix's values, then the region.
+fn lay_out(
+    size: usize,
+    blocks: &[u32],
+    ptr: &[u32],
+    cols: &[u32],
+    words: &[u64],
+    hops: u64,
+    out: &mut [u8],
+) -> Counted
+    requires { ⌜ (size ≤ 256) × (length (now blocks) ≤ 1023) × (length (now cols) ≤ 1023) × (maskCheck size (now words) ≡ Checked.Accepted) ⌝ }
+    ensures { λ r. ⌜ r ≡ textAnswer (textOf (laidCheck size (now (blocks .entry)) (now (ptr .entry)) (now (cols .entry))) (regionText size (now (ptr .entry)) (now (cols .entry)) (now (blocks .entry)) (now (words .entry)) hops)) (now (out .entry)) ⌝ }
+    ensures { λ _. ⌜ now (out .exit) ≡ textLeft (textOf (laidCheck size (now (blocks .entry)) (now (ptr .entry)) (now (cols .entry))) (regionText size (now (ptr .entry)) (now (cols .entry)) (now (blocks .entry)) (now (words .entry)) hops)) (now (out .entry)) ⌝ }
+{
+    let kinds: [u8; 1024] = [1; 1024];
+    let mut ids: [u64; 1024] = [0; 1024];
+    let fields: [u32; 1024] = [0; 1024];
+    let values: [f64; 1024] = [1.0; 1024];
+    let mut offsets: [u64; 1024] = [0; 1024];
+    number(&mut ids);
+    dof_layout::inner::write_offsets(blocks, &mut offsets);
+    let count = blocks.len();
+    let last = count + 1;
+    let entries = cols.len();
+    cut(
+        size,
+        ptr,
+        cols,
+        &values[0..entries],
+        &kinds[0..count],
+        &ids[0..count],
+        &fields[0..count],
+        blocks,
+        &offsets[0..last],
+        words,
+        hops,
+        out,
+    )
+}
+
+// 13 for the seeds, then the prepared region's order.
+fn ask(
+    size: usize,
+    blocks: &[u32],
+    ptr: &[u32],
+    cols: &[u32],
+    seeds: &[u64],
+    hops: u64,
+    out: &mut [u8],
+) -> Counted
+    requires { ⌜ (size ≤ 256) × (length (now blocks) ≤ 1023) × (length (now cols) ≤ 1023) ⌝ }
+    ensures { λ r. ⌜ r ≡ textAnswer (askedText (record { size = size; blocks = now (blocks .entry); ptr = now (ptr .entry); cols = now (cols .entry); seeds = now (seeds .entry); hops = hops })) (now (out .entry)) ⌝ }
+    ensures { λ _. ⌜ now (out .exit) ≡ textLeft (askedText (record { size = size; blocks = now (blocks .entry); ptr = now (ptr .entry); cols = now (cols .entry); seeds = now (seeds .entry); hops = hops })) (now (out .entry)) ⌝ }
+{
+    let mut words: [u64; 4] = [0; 4];
+    match mask::from_indices(size, seeds, &mut words) {
+        Checked::Refused(r) => job_text::inner::refuse(r.number, out),
+        Checked::Accepted => {
+            let need = mask::inner::words_for(size);
+            lay_out(size, blocks, ptr, cols, &words[0..need], hops, out)
+        }
+    }
+}
+
+// 27, then 1, then the rest, of a job that was read into the fronts of four lists.
+pub fn judge(
+    job: JobRead,
+    blocks: &[u32],
+    ptr: &[u32],
+    cols: &[u32],
+    seeds: &[u64],
+    out: &mut [u8],
+) -> Counted
+    requires { ⌜ (length (now blocks) ≡ 1024) × (length (now ptr) ≡ 1024) × (length (now cols) ≡ 1024) × (length (now seeds) ≡ 1024) ⌝ }
+    ensures { λ r. ⌜ r ≡ textAnswer (judgedText job (now (blocks .entry)) (now (ptr .entry)) (now (cols .entry)) (now (seeds .entry))) (now (out .entry)) ⌝ }
+    ensures { λ _. ⌜ now (out .exit) ≡ textLeft (judgedText job (now (blocks .entry)) (now (ptr .entry)) (now (cols .entry)) (now (seeds .entry))) (now (out .entry)) ⌝ }
+{
+    let number = fault(job);
+    if number != 0 {
+        return job_text::inner::refuse(number, out);
+    }
+    let a = job.blocks;
+    let b = job.pointers;
+    let c = job.columns;
+    let d = job.seeds;
+    ask(
+        job.size as usize,
+        &blocks[..a],
+        &ptr[..b],
+        &cols[..c],
+        &seeds[..d],
+        job.hops,
+        out,
+    )
 }

@@ -69,7 +69,7 @@ module _ (nrows ncols : ℕ) (ptr cols : List ℕ) (m : IsMatrix nrows ncols ptr
       → IsTopology nrows nrows P W M P2 W2 M2 × (sideHolds P W M ≡ stored ptr cols)
   parts-are square P W M P2 W2 M2 p w k p2 w2 k2 = (
     rw (p, w, k, p2, w2, k2)
-    (subst (λ (n : ℕ). IsTopology nrows n (sidePtr nrows ncols s) (sideWords nrows ncols s) (sideMasks nrows ncols s) (sidePtr ncols nrows (flip s)) (sideWords ncols nrows (flip s)) (sideMasks ncols nrows (flip s))) square (built-topology nrows ncols ptr cols m)),
+        (subst (λ (n : ℕ). IsTopology nrows n (sidePtr nrows ncols s) (sideWords nrows ncols s) (sideMasks nrows ncols s) (sidePtr ncols nrows (flip s)) (sideWords ncols nrows (flip s)) (sideMasks ncols nrows (flip s))) square (built-topology nrows ncols ptr cols m)),
     ap₂ (λ (x y : List ℕ). sideHolds x y M) p w ∙ ap (sideHolds (sidePtr nrows ncols s) (sideWords nrows ncols s)) k ∙ built-pairs nrows ncols ptr cols m,
   )
 

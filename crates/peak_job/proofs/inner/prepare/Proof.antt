@@ -208,9 +208,9 @@ returns-2 c =
     let f : r .last .1 .1 .1 .1 .1 .1 .1 .1 .1 .1 .1 .1 .1 .1 .1 .1 .1 .1 .1 .1 .1 .1 .0 ≡ over (frontierWords g (s .args .words .now) (s .args .hops)) old = left-is _ _ _ _ (r .ensures .1 .1 .1 .1 .1 .1 .1 .1 .1 .1 .0) (a .0) in
     let t : List ℕ = regionText n (s .args .ptr .now) (s .args .cols .now) (s .args .blocks .now) (s .args .words .now) (s .args .hops) in
     let same = text-is n (s .args .ptr .now) (s .args .cols .now) (s .args .blocks .now) (s .args .offsets .now) (s .args .words .now) (s .args .hops) i _ _ _
-        (ap (λ (x : PreparedFieldAwareLocalRegion). x .pattern .«local_nodes») (a .1)) (ap (λ (x : PreparedFieldAwareLocalRegion). x .pattern .«local_nnz») (a .1)) (ap (λ (x : PreparedFieldAwareLocalRegion). x .growth .«hops_completed») (a .1))
-        (r .last .1 .1 .1 .1 .1 .1 .1 .1 .1 .1 .1 .1 .1 .1 .1 .1 .1 .1 .1 .1 .1 .1 .1 .1 .0) (r .last .1 .1 .1 .1 .1 .1 .1 .1 .1 .1 .1 .1 .1 .1 .1 .1 .1 .1 .1 .1 .1 .1 .0) (r .last .1 .1 .1 .1 .1 .1 .1 .1 .1 .1 .1 .1 .1 .1 .1 .1 .1 .1 .1 .1 .1 .1 .1 .1 .1 .0) (r .last .1 .1 .1 .1 .1 .1 .1 .1 .1 .1 .1 .1 .1 .1 .1 .1 .1 .1 .1 .1 .1 .1 .1 .1 .1 .1 .0) (s .args .members .now) old (s .args .local-ptr .now) (s .args .local-cols .now)
-        (left-is _ _ _ _ (r .ensures .1 .1 .1 .1 .1 .1 .1 .1 .1 .1 .1 .1 .0) (a .0)) f (left-is _ _ _ _ (r .ensures .1 .1 .1 .1 .1 .1 .1 .1 .1 .1 .1 .1 .1 .0) (a .0)) (left-is _ _ _ _ (r .ensures .1 .1 .1 .1 .1 .1 .1 .1 .1 .1 .1 .1 .1 .1 .0) (a .0)) in
+    (ap (λ (x : PreparedFieldAwareLocalRegion). x .pattern .«local_nodes») (a .1)) (ap (λ (x : PreparedFieldAwareLocalRegion). x .pattern .«local_nnz») (a .1)) (ap (λ (x : PreparedFieldAwareLocalRegion). x .growth .«hops_completed») (a .1))
+    (r .last .1 .1 .1 .1 .1 .1 .1 .1 .1 .1 .1 .1 .1 .1 .1 .1 .1 .1 .1 .1 .1 .1 .1 .1 .0) (r .last .1 .1 .1 .1 .1 .1 .1 .1 .1 .1 .1 .1 .1 .1 .1 .1 .1 .1 .1 .1 .1 .1 .0) (r .last .1 .1 .1 .1 .1 .1 .1 .1 .1 .1 .1 .1 .1 .1 .1 .1 .1 .1 .1 .1 .1 .1 .1 .1 .1 .0) (r .last .1 .1 .1 .1 .1 .1 .1 .1 .1 .1 .1 .1 .1 .1 .1 .1 .1 .1 .1 .1 .1 .1 .1 .1 .1 .1 .0) (s .args .members .now) old (s .args .local-ptr .now) (s .args .local-cols .now)
+    (left-is _ _ _ _ (r .ensures .1 .1 .1 .1 .1 .1 .1 .1 .1 .1 .1 .1 .0) (a .0)) f (left-is _ _ _ _ (r .ensures .1 .1 .1 .1 .1 .1 .1 .1 .1 .1 .1 .1 .1 .0) (a .0)) (left-is _ _ _ _ (r .ensures .1 .1 .1 .1 .1 .1 .1 .1 .1 .1 .1 .1 .1 .1 .0) (a .0)) in
     let whole = same ∙ sym (ap (λ (x : Checked). textOf x t) ok) in
     (c .before .before .report .ensures .0 ∙ ap (λ (x : List ℕ). textAnswer x (s .args .out .now)) whole, c .before .before .report .ensures .1 ∙ ap (λ (x : List ℕ). textLeft x (s .args .out .now)) whole)
 

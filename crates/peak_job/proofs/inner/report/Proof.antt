@@ -79,9 +79,9 @@ returns c =
     let none : w .result - 0 ≡ w .result = omega arith in
     let same : membersBelow n (inMask (take need f)) ≡ membersBelow n (inMask (take (wordsFor n) f)) = ap (λ (k : ℕ). membersBelow n (inMask (take k f))) (c .before .before .before .before .before .before .before .before .before .before .before .before .before .words-for .ensures) in
     let listed : take (w .result - 0) (w .last .1 .1 .0) ≡ membersBelow n (inMask (take (wordsFor n) f)) =
-        ap₂ (λ (k : ℕ) (l : List ℕ). take k l) none (w .ensures .1)
-        ∙ over-own (membersBelow n (inMask (take need f))) _ (w .result) (count-members n (inMask (take need f)) ∙ sym (w .ensures .0))
-        ∙ same in
+    ap₂ (λ (k : ℕ) (l : List ℕ). take k l) none (w .ensures .1)
+    ∙ over-own (membersBelow n (inMask (take need f))) _ (w .result) (count-members n (inMask (take need f)) ∙ sym (w .ensures .0))
+    ∙ same in
     let text : List ℕ → List ℕ = λ x. resultLines (take (s .args .inside) (s .args .members .now)) x (s .args .completed) (take (s .args .inside + 1) (s .args .local-ptr .now)) (take (s .args .pairs) (s .args .local-cols .now)) in
     (c .before .before .write-result .ensures .0 ∙ ap (λ (x : List ℕ). textAnswer (text x) (s .args .out .now)) listed, c .before .before .write-result .ensures .1 ∙ ap (λ (x : List ℕ). textLeft (text x) (s .args .out .now)) listed)
 
