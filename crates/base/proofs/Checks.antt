@@ -57,6 +57,21 @@ group-stop g next q e = ap (λ (x : Checked). x then next) (sym e)
 pub then-next : (g next : Checked) → g ≡ Accepted → (g then next) ≡ next
 then-next g next e = sym (group-pass g next next e refl)
 
+-- nothing more to check
+pub then-none : (g : Checked) → (g then Accepted) ≡ g
+unfolding _then_
+then-none Accepted = refl
+then-none (Refused r) = refl
+
+pub both-pass : (g next : Checked) → g ≡ Accepted → next ≡ Accepted → (g then next) ≡ Accepted
+both-pass g next e f = then-next g next e ∙ f
+
+-- how a chain is grouped is no matter
+pub then-assoc : (a b next : Checked) → ((a then b) then next) ≡ (a then b then next)
+unfolding _then_
+then-assoc Accepted b next = refl
+then-assoc (Refused r) b next = refl
+
 -- what a call's answer r says of what its contract equates it with
 pub call-no : (r b : Bool) → r ≡ b → not r ≡ true → b ≡ false
 call-no r b e h = sym e ∙ not-true r h

@@ -444,3 +444,14 @@ map-two {C = C} f g (x ∷ l) = ap (λ (t : List C). f (g x) ∷ t) (map-two f g
 pub map-append : {A B : Type 0} (f : A → B) (a b : List A) → map f (a ++ b) ≡ map f a ++ map f b
 map-append f [] b = refl
 map-append {B = B} f (x ∷ a) b = ap (λ (t : List B). f x ∷ t) (map-append f a b)
+
+-- the front of a list of equal elements, and of a list by a rule
+pub take-replicate : {A : Type 0} (k n : ℕ) (x : A) → k ≤ n → take k (replicate n x) ≡ replicate k x
+take-replicate zero n x h = refl
+take-replicate (suc k) zero x h = absurd (not-suc-le-zero h)
+take-replicate {A} (suc k) (suc n) x h = ap (λ (l : List A). x ∷ l) (take-replicate k n x (le-of-suc-le-suc h))
+
+pub take-listFrom : {A : Type 0} (f : ℕ → A) (k n at : ℕ) → k ≤ n → take k (listFrom f n at) ≡ listFrom f k at
+take-listFrom f k n at h =
+    let e : n ≡ k + (n - k) = omega arith in
+    ap (λ (m : ℕ). take k (listFrom f m at)) e ∙ ap (take k) (listFrom-append f k (n - k) at) ∙ take-at (listFrom f k at) (listFrom f (n - k) (at + k)) k (length-listFrom f k at)

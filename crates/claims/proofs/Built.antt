@@ -2,19 +2,18 @@
 use mathlib.Core.Path.{_≡_, refl, sym, ap, ap₂, _∙_, subst}
 use mathlib.Core.Logic.{⊎-elim}
 use mathlib.Core.Bool.{Bool, _&&_}
-use mathlib.Core.List.{List, _++_, append-assoc}
-use Prim.Native.Nat.{ℕ, suc, _+_, _-_, _^_, _<_}
+use mathlib.Core.List.{List}
+use Prim.Native.Nat.{ℕ, suc, _+_, _^_, _<_}
 use native.Mathlib.Omega.{arith}
 use borrow.Author.Tests.{eq-eqb}
 use lib.Ieee.{Float}
-use lib.ListN.{length, getD, take, drop, replicate, List·getD-eq-default}
-use lib.Seq.{take-at}
+use lib.ListN.{length, getD, take, List·getD-eq-default}
 use Rattle.base.specs.Checks.{leaves}
 use Rattle.base.specs.Lists.{over, overZeros}
 use Rattle.base.specs.declared.Checked.{Checked}
 use Rattle.base.proofs.Bools.{lt-or-le}
 use Rattle.base.proofs.Checks.{group-pass, last-pass, both-passed}
-use Rattle.base.proofs.Lists.{length-listFrom}
+use Rattle.base.proofs.Lists.{length-listFrom, over-own, zeros-own}
 use Rattle.csr32.specs.Matrix.{matrixCheck, stored, IsMatrix}
 use Rattle.csr32.proofs.Matrix.{accepted, stored-row, stored-col}
 use Rattle.mask.specs.Mask.{lengthCheck}
@@ -117,14 +116,11 @@ module _ (n : ℕ) (ptr cols : List ℕ) (values : List Float) (len : ℕ) (seed
         pointers : (s : ℕ → ℕ → Bool) (out : List ℕ) → take (n + 1) (builtPtr check n n s out) ≡ sidePtr n n s
         pointers s out =
             ap (λ (t : Checked). take (n + 1) (builtPtr t n n s out)) e
-            ∙ take-at (sidePtr n n s) (drop (length (sidePtr n n s)) out) (n + 1) (length-listFrom (λ r. length (sideWords r n s)) (n + 1) 0)
+            ∙ over-own (sidePtr n n s) out (n + 1) (length-listFrom (λ r. length (sideWords r n s)) (n + 1) 0)
 
         own-part : (X out : List ℕ) (m : ℕ) → length X ≡ m → take m (leaves check (overZeros X (length cols) out) out) ≡ X
         own-part X out m h =
-            let Z : List ℕ = replicate (length cols - length X) 0 in
-            ap (λ (t : Checked). take m (leaves t (overZeros X (length cols) out) out)) e
-            ∙ ap (take m) (append-assoc X Z (drop (length (X ++ Z)) out))
-            ∙ take-at X (Z ++ drop (length (X ++ Z)) out) m h
+            ap (λ (t : Checked). take m (leaves t (overZeros X (length cols) out) out)) e ∙ zeros-own X out m (length cols) h
 
 -- ---- layout
 
@@ -143,7 +139,7 @@ module _ (kinds ids fields components : List ℕ) where
   left-offsets out e =
       let as-many : suc (length components) ≡ length kinds + 1 = omega (arith, layouts.accepted-blocks kinds ids fields components (both-passed _ _ e .0) .components-length) in
       ap (λ (t : Checked). take (length kinds + 1) (leaves t (over (offsetsOf components) out) out)) e
-      ∙ take-at (offsetsOf components) (drop (length (offsetsOf components)) out) (length kinds + 1) (length-listFrom (startOf components) (suc (length components)) 0 ∙ as-many)
+      ∙ over-own (offsetsOf components) out (length kinds + 1) (length-listFrom (startOf components) (suc (length components)) 0 ∙ as-many)
 
 -- ---- the claim
 

@@ -8,9 +8,9 @@ use borrow.Author.Tests.{eq-eqb}
 use lib.ListN.{length}
 use Rattle.base.specs.Checks.{sideLimit}
 use Rattle.base.specs.declared.Checked.{Checked}
-use Rattle.base.proofs.Checks.{then-next, pass, both-passed, length-passed, length-pass}
-use Rattle.mask.specs.Mask.{maskCheck, shapeCheck, lengthCheck}
-use Rattle.mask.proofs.Masks.{mask-accepted}
+use Rattle.base.proofs.Checks.{then-next, pass, both-passed, length-passed}
+use Rattle.mask.specs.Mask.{maskCheck, lengthCheck}
+use Rattle.mask.proofs.Masks.{mask-accepted, words-accepted}
 use Rattle.dof_layout.specs.Layout.{startOf, totalOf, IsLayout}
 use Rattle.dof_layout.specs.Answers.{squareCheck}
 use Rattle.dof_layout.proofs.Layouts.{start-suc, none-empty}
@@ -24,12 +24,6 @@ use Rattle.field_region.proofs.Accepted.{accepted-square}
 use Rattle.claims.specs.Runs.{largest, Growth, Ground, plainGround, fieldGround, begun, checkOf, run}
 use Rattle.claims.specs.Demand.{System, Accepts, Kind, topologyOf, pairsOf}
 use Rattle.claims.proofs.Runs.{holds-run}
-
--- an accepted mask of that length is accepted where its length is told
-pub words-accepted : (side len : ℕ) (words : List ℕ) → len ≡ side → maskCheck side words ≡ Checked.Accepted → lengthCheck side len words ≡ Checked.Accepted
-unfolding lengthCheck maskCheck
-words-accepted side len words same e =
-    sym (length-pass _ _ _ _ (eq-eqb len side same) (sym (subst (λ (n : ℕ). shapeCheck n words ≡ Checked.Accepted) (sym same) (both-passed _ _ e .1))))
 
 -- a layout has no more blocks than nodes
 pub blocks-le : (kinds ids fields components offsets : List ℕ) → IsLayout kinds ids fields components offsets → length components ≤ totalOf components

@@ -21,6 +21,7 @@ pub mod both_sides;
 pub mod layout;
 pub mod local;
 pub mod one_side;
+pub mod prepared;
 pub mod regions;
 
 // number: the refusal's number, or 0. present: there is an answer (false after a refusal, and where the answer is none).

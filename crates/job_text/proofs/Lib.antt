@@ -1,3 +1,4 @@
 pub mod Inverse
 pub mod Lines
 pub mod Texts
+pub mod Worked

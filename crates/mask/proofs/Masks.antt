@@ -237,3 +237,9 @@ mask-as n m x y e q h = subst (λ (k : ℕ). IsMask k x) (sym e) (subst (IsMask 
 
 pub count-as : (n m : ℕ) (x y : List ℕ) (r : ℕ) → n ≡ m → x ≡ y → r ≡ countBelow n (inMask x) → r ≡ countBelow m (inMask y)
 count-as n m x y r e q h = h ∙ ap₂ (λ (k : ℕ) (l : List ℕ). countBelow k (inMask l)) e q
+
+-- an accepted mask of that length is accepted where its length is told
+pub words-accepted : (side len : ℕ) (words : List ℕ) → len ≡ side → maskCheck side words ≡ Checked.Accepted → lengthCheck side len words ≡ Checked.Accepted
+unfolding lengthCheck maskCheck
+words-accepted side len words same e =
+    sym (length-pass _ _ _ _ (eq-eqb len side same) (sym (subst (λ (n : ℕ). shapeCheck n words ≡ Checked.Accepted) (sym same) (both-passed _ _ e .1))))

@@ -1,21 +1,20 @@
 -- A job's parts of fixed arrays, and its checks step by step. Assumes nothing.
 use mathlib.Core.Path.{_≡_, refl, sym, ap, ap₂, _∙_}
 use mathlib.Core.Bool.{Bool, true, false, cond, _&&_}
-use mathlib.Core.List.{List, [], _∷_}
-use Prim.Native.Nat.{ℕ, zero, suc, _+_, _-_, _≤_, _<_}
-use native.Mathlib.Nat.{not-suc-le-zero, le-of-suc-le-suc}
+use mathlib.Core.List.{List}
+use Prim.Native.Nat.{ℕ, _≤_, _<_}
 use native.Mathlib.Omega.{arith}
 use borrow.Author.Tests.{le-leb, leb-true}
-use lib.Dec.{leb}
-use lib.ListN.{length, getD, take, replicate}
-use lib.Seq.{take-at, take-all}
+use lib.Dec.{eqb, leb}
+use lib.ListN.{length, getD, take}
+use lib.Seq.{take-all}
 use Rattle.base.specs.Checks.{must, _then_, sideLimit}
-use Rattle.base.specs.Lists.{every, below, listFrom, over}
+use Rattle.base.specs.Lists.{every, below, over}
 use Rattle.base.specs.declared.Checked.{Checked}
 use Rattle.base.specs.declared.Refusal.{Refusal}
-use Rattle.base.proofs.Checks.{last-pass, group-stop, then-next}
+use Rattle.base.proofs.Checks.{last-pass, group-stop, then-next, then-none}
 use Rattle.base.proofs.Bools.{and-left, and-right}
-use Rattle.base.proofs.Lists.{length-listFrom, listFrom-append, over-own}
+use Rattle.base.proofs.Lists.{over-own}
 use Rattle.base.proofs.Sets.{sum-most}
 use Rattle.mask.specs.Mask.{wordsFor}
 use Rattle.mask.specs.Answers.{fromCheck}
@@ -26,20 +25,7 @@ use Rattle.job_text.specs.Answer.{refusedKey}
 use Rattle.job_text.specs.declared.JobRead.{JobRead}
 use Rattle.peak_job.specs.Answer.{inArrays, askCheck, jobCheck, resultText, textOf, answerText}
 use Rattle.peak_job.specs.Steps.{readFits, laidCheck, askedText, jobRead, judgedText}
-use Rattle.peak_job.proofs.Regions.{then-none, le-25}
-
--- ---- parts of arrays
-
-pub take-same : {A : Type 0} (k n : ℕ) (x : A) → k ≤ n → take k (replicate n x) ≡ replicate k x
-take-same zero n x h = refl
-take-same (suc k) zero x h = absurd (not-suc-le-zero h)
-take-same (suc k) (suc n) x h = ap (λ (l : List _). x ∷ l) (take-same k n x (le-of-suc-le-suc h))
-
-pub take-places : (k n : ℕ) → k ≤ n → take k (listFrom (λ (b : ℕ). b) n 0) ≡ listFrom (λ b. b) k 0
-take-places k n h =
-    let e : n ≡ k + (n - k) = omega arith in
-    ap (λ (m : ℕ). take k (listFrom (λ (b : ℕ). b) m 0)) e ∙ ap (take k) (listFrom-append (λ (b : ℕ). b) k (n - k) 0)
-    ∙ take-at (listFrom (λ (b : ℕ). b) k 0) (listFrom (λ (b : ℕ). b) (n - k) (0 + k)) k (length-listFrom (λ (b : ℕ). b) k 0)
+use Rattle.peak_job.proofs.Regions.{le-25}
 
 -- the blocks of a job have far fewer components than 64 bits hold
 pub total-fits : (blocks : List ℕ) → ((k : ℕ) → getD blocks k 0 < 4294967296) → length blocks ≤ 1023 → totalOf blocks < 18446744073709551616
@@ -67,6 +53,13 @@ unfolding askCheck
 ask-on j e = then-next (must (every (below (j .size)) (j .seeds)) 13) (laidCheck (j .size) (j .blocks) (j .ptr) (j .cols)) e
 
 -- 27 and 1
+pub first-is : (good fit : Bool) (a b k : ℕ) → a ≡ cond good 0 27 → b ≡ cond fit 0 1 → k ≡ cond (eqb a 0) b a → k ≡ cond good (cond fit 0 1) 27
+first-is good fit a b k ea eb e = e ∙ ap₂ (λ (x y : ℕ). cond (eqb x 0) y x) ea eb ∙ order good
+  where
+    order : (g : Bool) → _≡_ {A = ℕ} (cond (eqb (cond g 0 27) 0) (cond fit 0 1) (cond g 0 27)) (cond g (cond fit 0 1) 27)
+    order true = refl
+    order false = refl
+
 pub fault-text : (good fit : Bool) (rest : Checked) (x : List ℕ) (k : ℕ) → k ≡ cond good (cond fit 0 1) 27 → (k ≡ 0 → ⊥)
     → line refusedKey (decimal k) ≡ textOf (must good 27 then must fit 1 then rest) x
 unfolding must _then_

@@ -5,7 +5,7 @@ use mathlib.Core.Bool.{Bool}
 use mathlib.Core.List.{List}
 use Prim.Native.Nat.{ℕ, _+_, _≤_, _<_}
 use native.Mathlib.Omega.{arith}
-use borrow.Author.Tests.{le-leb, lt-ltb, eq-eqb}
+use borrow.Author.Tests.{le-leb, lt-ltb}
 use lib.Dec.{leb, ltb}
 use lib.ListN.{length, take}
 use Rattle.base.specs.Checks.{must, _then_, after, leaves}
@@ -13,12 +13,12 @@ use Rattle.base.specs.Lists.{over, overZeros}
 use Rattle.base.specs.Sets.{countBelow, membersBelow}
 use Rattle.base.specs.declared.Checked.{Checked}
 use Rattle.base.specs.declared.Refusal.{Refusal}
-use Rattle.base.proofs.Checks.{last-pass, length-pass, both-passed, then-next}
+use Rattle.base.proofs.Checks.{last-pass, both-passed, both-pass, then-none}
 use Rattle.base.proofs.Lists.{over-own, zeros-own}
 use Rattle.base.proofs.Sets.{count-members}
 use Rattle.csr32.specs.Matrix.{stored}
-use Rattle.mask.specs.Mask.{wordsFor, inMask, shapeCheck, maskCheck, lengthCheck, IsMask}
-use Rattle.mask.proofs.Masks.{mask-length, mask-is}
+use Rattle.mask.specs.Mask.{wordsFor, inMask, maskCheck, lengthCheck, IsMask}
+use Rattle.mask.proofs.Masks.{mask-length, mask-is, words-accepted}
 use Rattle.side.specs.Check.{sideRoom}
 use Rattle.graph.specs.Network.{Network, frontierWords, hopsCompleted, inFrontier}
 use Rattle.growth.specs.Lent.{masksRoom}
@@ -36,18 +36,6 @@ use Rattle.peak_job.specs.Steps.{Arrays}
 
 -- ---- the checks
 
-pub then-none : (g : Checked) → (g then Checked.Accepted) ≡ g
-unfolding _then_
-then-none Checked.Accepted = refl
-then-none (Checked.Refused r) = refl
-
-both-pass : (g next : Checked) → g ≡ Checked.Accepted → next ≡ Checked.Accepted → (g then next) ≡ Checked.Accepted
-both-pass g next e f = then-next g next e ∙ f
-
-words-accepted : (n : ℕ) (words : List ℕ) → maskCheck n words ≡ Checked.Accepted → lengthCheck n n words ≡ Checked.Accepted
-unfolding lengthCheck maskCheck
-words-accepted n words e = sym (length-pass _ _ _ _ (eq-eqb n n refl) (sym (both-passed _ _ e .1)))
-
 -- mask and room accepted, the prepared region's checks are the matrix and the layout
 pub check-is : (matrix square room : Checked) (n : ℕ) (words : List ℕ) → maskCheck n words ≡ Checked.Accepted → room ≡ Checked.Accepted
     → prepareCheck (prepareInputs matrix square n n words) room ≡ (matrix then square)
@@ -55,7 +43,7 @@ unfolding prepareCheck prepareInputs
 check-is matrix square room n words m r =
     ap (λ (x : Checked). (matrix then (square then lengthCheck n n words)) then x) r
     ∙ then-none (matrix then (square then lengthCheck n n words))
-    ∙ ap (λ (x : Checked). matrix then (square then x)) (words-accepted n words m)
+    ∙ ap (λ (x : Checked). matrix then (square then x)) (words-accepted n n words refl m)
     ∙ ap (λ (x : Checked). matrix then x) (then-none square)
 
 -- what both accept, the prepared region's inputs do
@@ -63,7 +51,7 @@ pub inputs-pass : (matrix square : Checked) (n : ℕ) (words : List ℕ) → mas
 unfolding prepareInputs
 inputs-pass matrix square n words m e =
     let b = both-passed matrix square e in
-    both-pass matrix (square then lengthCheck n n words) (b .0) (both-pass square (lengthCheck n n words) (b .1) (words-accepted n words m))
+    both-pass matrix (square then lengthCheck n n words) (b .0) (both-pass square (lengthCheck n n words) (b .1) (words-accepted n n words refl m))
 
 pub le-25 : (a b : ℕ) → a ≤ b → must (leb a b) 25 ≡ Checked.Accepted
 le-25 a b h = sym (last-pass _ 25 _ (le-leb a b h) refl)

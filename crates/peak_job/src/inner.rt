@@ -4,7 +4,9 @@ use base::Counted;
 use job_text::JobRead;
 use prepared_field_region::RegionPrepared;
 ghost use mathlib.Core.Path.{_≡_};
+ghost use mathlib.Core.Bool.{cond};
 ghost use Prim.Native.Nat.{_+_, _≤_, _<_};
+ghost use lib.Dec.{eqb};
 ghost use lib.ListN.{length, take};
 ghost use Rattle.base.specs.Checks.{_then_};
 ghost use Rattle.base.specs.Lists.{listFrom};
@@ -15,7 +17,7 @@ ghost use Rattle.csr32.specs.Matrix.{matrixCheck};
 ghost use Rattle.dof_layout.specs.Answers.{squareCheck};
 ghost use Rattle.job_text.specs.Answer.{resultLines, textAnswer, textLeft};
 ghost use Rattle.peak_job.specs.Answer.{regionText, textOf};
-ghost use Rattle.peak_job.specs.Steps.{faultOf, Arrays, laidCheck, askedText, judgedText};
+ghost use Rattle.peak_job.specs.Steps.{readFits, faultOf, Arrays, laidCheck, askedText, judgedText};
 
 // Each its own place.
 fn number(ids: &mut [u64])
@@ -28,13 +30,20 @@ fn number(ids: &mut [u64])
     }
 }
 
-// 27 over the whole text, then 1; 0 where neither refuses.
-fn fault(job: JobRead) -> u32
-    ensures { λ r. ⌜ r ≡ faultOf job ⌝ }
+// 27 where the text is no job, else 0.
+fn malformed(job: JobRead) -> u32
+    ensures { λ r. ⌜ r ≡ cond (job .good) 0 27 ⌝ }
 {
-    if !job.good {
-        return 27;
+    if job.good {
+        return 0;
     }
+    27
+}
+
+// 1 where the size or a list is too long, else 0.
+fn too_long(job: JobRead) -> u32
+    ensures { λ r. ⌜ r ≡ cond (readFits job) 0 1 ⌝ }
+{
     if job.size > 256 {
         return 1;
     }
@@ -51,6 +60,25 @@ fn fault(job: JobRead) -> u32
         return 1;
     }
     0
+}
+
+// The first of two faults.
+fn first(a: u32, b: u32) -> u32
+    ensures { λ r. ⌜ r ≡ cond (eqb a 0) b a ⌝ }
+{
+    if a == 0 {
+        return b;
+    }
+    a
+}
+
+// 27 over the whole text, then 1; 0 where neither refuses.
+fn fault(job: JobRead) -> u32
+    ensures { λ r. ⌜ r ≡ faultOf job ⌝ }
+{
+    let text = malformed(job);
+    let room = too_long(job);
+    first(text, room)
 }
 
 // The five lines of a prepared region, from the fronts of its lists; the frontier's members are listed first.

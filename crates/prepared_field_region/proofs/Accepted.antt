@@ -27,24 +27,33 @@ pub square-layout : (kinds ids fields components offsets : List ℕ) (nrows ncol
 unfolding squareCheck
 square-layout kinds ids fields components offsets nrows ncols e = both-passed _ _ e .0
 
+-- the matrix is square
+pub accepted-matrix : (nrows ncols : ℕ) (ptr cols : List ℕ) (values : List Float) (kinds ids fields components offsets : List ℕ) (len : ℕ) (seeds : List ℕ)
+    → prepareInputs (matrixCheck nrows ncols ptr cols values) (squareCheck kinds ids fields components offsets nrows ncols) nrows len seeds ≡ Checked.Accepted
+    → IsMatrix nrows nrows ptr cols × (ncols ≡ nrows)
+unfolding prepareInputs
+accepted-matrix nrows ncols ptr cols values kinds ids fields components offsets len seeds e =
+    let a = both-passed _ _ e in
+    let q = accepted-square kinds ids fields components offsets nrows ncols (both-passed _ _ (a .1) .0) in
+    let same : ncols ≡ nrows = q .2 ∙ sym (q .1) in
+    (subst (λ (k : ℕ). IsMatrix nrows k ptr cols) same (accepted nrows ncols ptr cols values (a .0) .matrix), same)
+
 pub accepted-inputs : (nrows ncols : ℕ) (ptr cols : List ℕ) (values : List Float) (kinds ids fields components offsets : List ℕ) (len : ℕ) (seeds : List ℕ) → ((k : ℕ) → getD seeds k 0 < 2 ^ 64)
     → prepareInputs (matrixCheck nrows ncols ptr cols values) (squareCheck kinds ids fields components offsets nrows ncols) nrows len seeds ≡ Checked.Accepted
     → Inputs nrows ptr cols components offsets seeds × (ncols ≡ nrows)
 unfolding prepareInputs
 accepted-inputs nrows ncols ptr cols values kinds ids fields components offsets len seeds bits e =
-    let a = both-passed _ _ e in
-    let b = both-passed _ _ (a .1) in
-    let m = accepted nrows ncols ptr cols values (a .0) .matrix in
-    let q = accepted-square kinds ids fields components offsets nrows ncols (b .0) in
-    let same : ncols ≡ nrows = q .2 ∙ sym (q .1) in (
+    let b = both-passed _ _ (both-passed _ _ e .1) in
+    let m = accepted-matrix nrows ncols ptr cols values kinds ids fields components offsets len seeds e in
+    let q = accepted-square kinds ids fields components offsets nrows ncols (b .0) in (
       record {
-        matrix = subst (λ (k : ℕ). IsMatrix nrows k ptr cols) same m;
+        matrix = m .0;
         side = q .1;
         running = q .0 .running;
         filled = none-empty kinds ids fields components (q .0 .blocks);
-        mask = accepted-length nrows len seeds (m .few-rows) bits (b .1) .1;
+        mask = accepted-length nrows len seeds (m .0 .few-rows) bits (b .1) .1;
       },
-      same,
+      m .1,
     )
 
 local-fits : (n entries : ℕ) (nodes ptr cols sourcePtr sources : List ℕ) → localRoom n entries (length nodes) (length ptr) (length cols) (length sourcePtr) (length sources) ≡ Checked.Accepted

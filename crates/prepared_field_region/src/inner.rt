@@ -24,6 +24,35 @@ ghost use Rattle.gather.specs.Plan.{planSources, planPtr};
 ghost use Rattle.prepared_field_region.specs.Prepared.{localRoom, prepareRoom, prepareInputs, blockOwnersCheck, networkOf, regionOf, listsOf, preparedOf};
 ghost use Rattle.prepared_field_region.specs.Steps.{LocalFits, MasksFit, Inputs, localStats, cutStats};
 
+// The matrix, the layout against it.
+fn check_system(
+    nrows: usize,
+    ncols: usize,
+    row_ptr: &[u32],
+    col_idx: &[u32],
+    values: &[f64],
+    entity_kinds: &[u8],
+    entity_ids: &[u64],
+    field_ids: &[u32],
+    components: &[u32],
+    offsets: &[u64],
+) -> Checked
+    ensures { λ r. ⌜ r ≡ (matrixCheck nrows ncols (now («row_ptr» .entry)) (now («col_idx» .entry)) (now (values .entry)) then squareCheck (now («entity_kinds» .entry)) (now («entity_ids» .entry)) (now («field_ids» .entry)) (now (components .entry)) (now (offsets .entry)) nrows ncols) ⌝ }
+{
+    match csr32::validate(nrows, ncols, row_ptr, col_idx, values) {
+        Checked::Refused(r) => Checked::Refused(r),
+        Checked::Accepted => dof_layout::validate_square_matrix_size(
+            entity_kinds,
+            entity_ids,
+            field_ids,
+            components,
+            offsets,
+            nrows,
+            ncols,
+        ),
+    }
+}
+
 // The matrix, the layout against it, the mask.
 pub fn check_inputs(
     nrows: usize,
@@ -41,20 +70,20 @@ pub fn check_inputs(
 ) -> Checked
     ensures { λ r. ⌜ r ≡ prepareInputs (matrixCheck nrows ncols (now («row_ptr» .entry)) (now («col_idx» .entry)) (now (values .entry))) (squareCheck (now («entity_kinds» .entry)) (now («entity_ids» .entry)) (now («field_ids» .entry)) (now (components .entry)) (now (offsets .entry)) nrows ncols) nrows len (now (words .entry)) ⌝ }
 {
-    match csr32::validate(nrows, ncols, row_ptr, col_idx, values) {
+    match check_system(
+        nrows,
+        ncols,
+        row_ptr,
+        col_idx,
+        values,
+        entity_kinds,
+        entity_ids,
+        field_ids,
+        components,
+        offsets,
+    ) {
         Checked::Refused(r) => Checked::Refused(r),
-        Checked::Accepted => match dof_layout::validate_square_matrix_size(
-            entity_kinds,
-            entity_ids,
-            field_ids,
-            components,
-            offsets,
-            nrows,
-            ncols,
-        ) {
-            Checked::Refused(r) => Checked::Refused(r),
-            Checked::Accepted => mask::inner::check_length(nrows, len, words),
-        },
+        Checked::Accepted => mask::inner::check_length(nrows, len, words),
     }
 }
 
@@ -76,22 +105,22 @@ pub fn check_owners(
 ) -> Checked
     ensures { λ r. ⌜ r ≡ blockOwnersCheck (matrixCheck nrows ncols (now («row_ptr» .entry)) (now («col_idx» .entry)) (now (values .entry))) (squareCheck (now («entity_kinds» .entry)) (now («entity_ids» .entry)) (now («field_ids» .entry)) (now (components .entry)) (now (offsets .entry)) nrows ncols) (layoutCheck (now («entity_kinds» .entry)) (now («entity_ids» .entry)) (now («field_ids» .entry)) (now (components .entry)) (now (offsets .entry)) then ownedCheck (now (components .entry)) (now («dof_owners» .entry)) ranks room) ⌝ }
 {
-    match csr32::validate(nrows, ncols, row_ptr, col_idx, values) {
+    match check_system(
+        nrows,
+        ncols,
+        row_ptr,
+        col_idx,
+        values,
+        entity_kinds,
+        entity_ids,
+        field_ids,
+        components,
+        offsets,
+    ) {
         Checked::Refused(r) => Checked::Refused(r),
-        Checked::Accepted => match dof_layout::validate_square_matrix_size(
-            entity_kinds,
-            entity_ids,
-            field_ids,
-            components,
-            offsets,
-            nrows,
-            ncols,
-        ) {
-            Checked::Refused(r) => Checked::Refused(r),
-            Checked::Accepted => {
-                field_region::inner::check_owned(components, offsets, dof_owners, ranks, room)
-            }
-        },
+        Checked::Accepted => {
+            field_region::inner::check_owned(components, offsets, dof_owners, ranks, room)
+        }
     }
 }
 

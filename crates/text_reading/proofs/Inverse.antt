@@ -16,6 +16,7 @@ use Rattle.base.proofs.Lists.{same-list, list-same}
 use Rattle.text_writing.specs.Text.{comma, newline, digit, digitsOf, decimal, further, numbers, line}
 use Rattle.text_writing.proofs.Digits.{digits-one, digits-more, digits-some, decimal-one, decimal-more, decimal-some}
 use Rattle.text_reading.specs.Reading.{isDigit, valueFrom, leadingZero, isNumber, numberOf, before, behind, onFirst, parts, fields, isList, listOf, isLine, valueOf}
+use Rattle.text_reading.proofs.Fields.{fields-some}
 
 -- ---- digits
 
@@ -209,23 +210,18 @@ parts-none c (b ∷ p) h =
     let r = neither (eqb b c) (isIn c p) h in
     ap₂ (λ (t : Bool) (x : List (List ℕ)). cond t ([] ∷ parts c p) (onFirst b x)) (r .0) (parts-none c p (r .1))
 
-parts-first : (c : ℕ) (p t : List ℕ) → isIn c p ≡ false → parts c (p ++ (c ∷ t)) ≡ p ∷ parts c t
+parts-split : (c : ℕ) (p t : List ℕ) → isIn c p ≡ false → parts c (p ++ (c ∷ t)) ≡ p ∷ parts c t
 unfolding isIn parts
-parts-first c [] t h = ap (λ (q : Bool). cond q ([] ∷ parts c t) (onFirst c (parts c t))) (eq-eqb c c refl)
-parts-first c (b ∷ p) t h =
+parts-split c [] t h = ap (λ (q : Bool). cond q ([] ∷ parts c t) (onFirst c (parts c t))) (eq-eqb c c refl)
+parts-split c (b ∷ p) t h =
     let r = neither (eqb b c) (isIn c p) h in
-    ap₂ (λ (q : Bool) (x : List (List ℕ)). cond q ([] ∷ parts c (p ++ (c ∷ t))) (onFirst b x)) (r .0) (parts-first c p t (r .1))
+    ap₂ (λ (q : Bool) (x : List (List ℕ)). cond q ([] ∷ parts c (p ++ (c ∷ t))) (onFirst b x)) (r .0) (parts-split c p t (r .1))
 
 parts-further : (p xs : List ℕ) → isIn comma p ≡ false → parts comma (p ++ further xs) ≡ p ∷ map decimal xs
 unfolding further
 parts-further p [] h = ap (parts comma) (append-nil p) ∙ parts-none comma p h
 parts-further p (x ∷ xs) h =
-    parts-first comma p (decimal x ++ further xs) h ∙ ap (λ (t : List (List ℕ)). p ∷ t) (parts-further (decimal x) xs (decimal-lacks comma x (omega arith)))
-
-fields-some : (v : List ℕ) → 0 < length v → fields v ≡ parts comma v
-unfolding fields
-fields-some [] h = absurd (not-suc-le-zero h)
-fields-some (b ∷ v) h = refl
+    parts-split comma p (decimal x ++ further xs) h ∙ ap (λ (t : List (List ℕ)). p ∷ t) (parts-further (decimal x) xs (decimal-lacks comma x (omega arith)))
 
 -- between the commas of a list stand its numbers
 fields-numbers : (xs : List ℕ) → fields (numbers xs) ≡ map decimal xs

@@ -6,12 +6,11 @@ mod port;
 use std::cell::RefCell;
 
 use hybit_original::{
-    AbtmDualTopology, Csr32Matrix, DofMask, FieldAwareDofLayout, close_to_field_blocks,
-    field_block_owners, grow_field_aware_region, grow_undirected_region, region_multiplicity,
+    AbtmDualTopology, Csr32Matrix, DofMask, close_to_field_blocks, field_block_owners,
+    grow_field_aware_region, grow_undirected_region, region_multiplicity,
 };
 
-use crate::layout::blocks::entity_major;
-use crate::layout::port::Lists;
+use crate::layout::blocks::Blocks;
 use crate::measure::{Table, repeated, single};
 use crate::sides::Topology;
 use crate::topology::matrices::{banded, scattered};
@@ -41,8 +40,8 @@ pub fn rows(table: &mut Table, long: bool) {
             by_blocks(table, &input, &matrix(ROWS_OF_3, entries), hops);
         }
     }
-    let threes = Blocks::new(ROWS_OF_3 / 3, 3);
-    let singles = Blocks::new(MOST_ROWS, 1);
+    let threes = Blocks::over(ROWS_OF_3, 3);
+    let singles = Blocks::over(MOST_ROWS, 1);
     for (blocks, named) in [
         (&threes, "349,525 blocks of 3"),
         (&singles, "1,048,576 blocks of 1"),
@@ -101,7 +100,7 @@ fn plain(table: &mut Table, input: &str, matrix: &Csr32Matrix, hops: &[u64]) {
 fn by_blocks(table: &mut Table, input: &str, matrix: &Csr32Matrix, hops: &[u64]) {
     let rust = AbtmDualTopology::from_csr32(matrix).expect("an accepted matrix");
     let port = Topology::of(&rust);
-    let Blocks { lists, layout } = Blocks::new(matrix.nrows() / 3, 3);
+    let Blocks { lists, layout } = Blocks::over(matrix.nrows(), 3);
     let lent = RefCell::new(Lent::new(matrix.nrows()));
     for (named, seeds) in seeds(matrix.nrows()) {
         for &hops in hops {
@@ -129,23 +128,6 @@ fn by_blocks(table: &mut Table, input: &str, matrix: &Csr32Matrix, hops: &[u64])
                 table.checks(whole, inner);
             }
         }
-    }
-}
-
-/// A layout as the port and as the Rust take it.
-struct Blocks {
-    lists: Lists,
-    layout: FieldAwareDofLayout,
-}
-
-impl Blocks {
-    fn new(count: usize, components: u32) -> Self {
-        let blocks = entity_major(count, 1, components);
-        let mut lists = Lists::of(&blocks);
-        let size = u64::from(components);
-        lists.offsets = (0..=count as u64).map(|block| block * size).collect();
-        let layout = FieldAwareDofLayout::new(blocks).expect("an accepted layout");
-        Self { lists, layout }
     }
 }
 

@@ -4,8 +4,9 @@
 //! ```text
 //! benchmark               all rows but the slowest
 //! benchmark long          all rows
-//! benchmark GROUP [long]  those of layout, of topology, of growth or of local
-//! benchmark local small   those of local on few rows, to see that they run
+//! benchmark GROUP [long]  those of layout, topology, growth, local or prepared
+//! benchmark GROUP small   those of local or prepared on few rows, to see that
+//!                         they run
 //! ```
 
 mod growth;
@@ -13,6 +14,7 @@ mod layout;
 mod local;
 mod measure;
 mod memory;
+mod prepared;
 #[cfg(repeated)]
 mod rest;
 mod sides;
@@ -27,7 +29,7 @@ use measure::Table;
 /// built for: `target-cpu=native` would favour the Rust.
 const _: () = assert!(!cfg!(target_feature = "sse3"), "built with target-cpu");
 
-const GROUPS: [&str; 4] = ["layout", "topology", "growth", "local"];
+const GROUPS: [&str; 5] = ["layout", "topology", "growth", "local", "prepared"];
 
 /// The largest side that document 01 allows, and one that takes no time.
 const MOST_ROWS: usize = 1_048_576;
@@ -39,7 +41,7 @@ fn main() {
     let (group, long, rows) = match arguments.as_slice() {
         [] => (None, false, MOST_ROWS),
         ["long"] => (None, true, MOST_ROWS),
-        ["local", "small"] => (Some("local"), true, FEW_ROWS),
+        [group @ ("local" | "prepared"), "small"] => (Some(*group), true, FEW_ROWS),
         [group] => (Some(*group), false, MOST_ROWS),
         [group, "long"] => (Some(*group), true, MOST_ROWS),
         _ => usage(),
@@ -64,11 +66,14 @@ fn main() {
     if wanted("local") {
         local::rows(&mut table, rows, long);
     }
+    if wanted("prepared") {
+        prepared::rows(&mut table, rows, long);
+    }
     table.finish();
 }
 
 fn usage() -> ! {
     println!("usage: benchmark [{}] [long]", GROUPS.join(" | "));
-    println!("       benchmark local small");
+    println!("       benchmark local | prepared small");
     exit(1);
 }

@@ -105,6 +105,12 @@ impl Table {
             "`without checks`: the port's work many times after one check, less the work once"
         );
         println!("after one check; the Rust checks nothing but the sizes there.");
+        println!(
+            "`prepare_region`: the Rust builds its topology and prepares one region on it, and both"
+        );
+        println!(
+            "allocate in that time; the port's lists are lent, and it checks the layout as well."
+        );
         println!();
         println!(
             "{:<28} {:<46} {:>12} {:>12} {:>12} {:>7}",

@@ -2,7 +2,7 @@
 
 /// So many values at most in an answer. The port's records differ in theirs;
 /// those that a record lacks are 0 here.
-pub const VALUES: usize = 10;
+pub const VALUES: usize = 32;
 
 /// The fields of all of the port's records.
 #[derive(Clone, Copy, Debug, PartialEq, Eq)]
@@ -75,6 +75,19 @@ from_record! {
     }
     PlanAnswer {
         local_nodes, local_nnz, source_terms, duplicate_source_terms,
+        direct_source_map, plan_bytes;
+    }
+    PreparedAnswer {
+        row_words, column_words, pairs,
+        topology_nrows, topology_ncols, structural_nnz, row_metadata_bytes,
+        column_metadata_bytes,
+        hops_requested, hops_completed, seed_dofs, block_closed_seed_dofs,
+        region_dofs, region_blocks, frontier_dofs_visited, row_words_visited,
+        column_words_visited, candidate_neighbor_bits,
+        global_nodes, local_nodes, local_nnz, topology_words_visited,
+        pattern_candidate_bits, kept_neighbor_bits, mapping_scratch_bytes,
+        pattern_bytes,
+        plan_local_nodes, plan_local_nnz, source_terms, duplicate_source_terms,
         direct_source_map, plan_bytes;
     }
 }

@@ -6,11 +6,15 @@
 
 mod csr32;
 mod growth;
+mod job;
 mod layout;
 mod local;
 mod mask;
+mod prepared;
 mod topology;
 mod word;
+
+pub use job::{answer_text as job_answer, recorded as recorded_jobs};
 
 use crate::answer::Answer;
 use crate::parts::Parts;
@@ -144,6 +148,8 @@ groups! {
     Topology(topology),
     Growth(growth),
     Local(local),
+    Prepared(prepared),
+    Job(job),
 }
 
 pub fn named(name: &str) -> Option<&'static Group> {

@@ -9,8 +9,12 @@
 //! differential record-topology FOLDER  writes those of the calls on topologies
 //! differential record-growth FOLDER    writes those of the calls on regions
 //! differential record-local FOLDER     writes those of the calls on local systems
+//! differential record-jobs FOLDER      writes those of jobs
 //! differential self-test               wrong expectations must be reported
 //! ```
+
+// An answer holds the values of the longest record, and is made once a call.
+#![allow(clippy::result_large_err)]
 
 mod answer;
 mod compare;
@@ -24,6 +28,7 @@ mod rng;
 mod self_test;
 
 use std::env;
+use std::io;
 use std::path::Path;
 use std::time::{Duration, Instant, SystemTime, UNIX_EPOCH};
 
@@ -41,6 +46,7 @@ fn main() {
         ["soak", seconds] => soak(number(seconds), seed_from_clock()),
         ["soak", seconds, seed] => soak(number(seconds), number(seed)),
         ["self-test"] => self_test::run(&record::all_calls()),
+        ["record-jobs", folder] => written(folder, record::jobs::write(Path::new(folder))),
         [argument, folder] => record(format(argument), folder),
         _ => usage(),
     }
@@ -52,7 +58,7 @@ fn usage() -> ! {
         .map(|format| format!(" | {} FOLDER", format.argument))
         .collect();
     fail(&format!(
-        "usage: differential [only GROUP | soak SECONDS [SEED]{records} | self-test]"
+        "usage: differential [only GROUP | soak SECONDS [SEED]{records} | record-jobs FOLDER | self-test]"
     ))
 }
 
@@ -82,7 +88,11 @@ fn format(argument: &str) -> &'static Format {
 }
 
 fn record(format: &Format, folder: &str) {
-    if let Err(error) = record::write(format, Path::new(folder)) {
+    written(folder, record::write(format, Path::new(folder)));
+}
+
+fn written(folder: &str, result: io::Result<()>) {
+    if let Err(error) = result {
         fail(&format!("{folder}: {error}"));
     }
 }

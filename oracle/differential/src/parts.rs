@@ -57,6 +57,11 @@ impl<'call> Parts<'call> {
         self
     }
 
+    pub fn longest(&self) -> usize {
+        let lengths = self.lists.iter().map(|(_, list)| list.len());
+        lengths.max().unwrap_or_default()
+    }
+
     pub fn show_numbers(&self) -> String {
         self.numbers
             .iter()

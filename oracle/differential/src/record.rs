@@ -2,6 +2,7 @@
 //! expected of each. They are written without asking the port.
 
 mod format;
+pub mod jobs;
 mod shares;
 
 use std::collections::BTreeMap;

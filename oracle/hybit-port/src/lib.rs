@@ -3,10 +3,12 @@
 
 mod growth;
 mod local;
+mod prepared;
 mod topology;
 
 pub use growth::*;
 pub use local::*;
+pub use prepared::*;
 pub use topology::*;
 
 #[repr(C)]

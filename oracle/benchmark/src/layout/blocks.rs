@@ -1,6 +1,30 @@
 //! The blocks that are measured.
 
-use hybit_original::{DofBlock, DofEntityKind};
+use hybit_original::{DofBlock, DofEntityKind, FieldAwareDofLayout};
+
+use super::port::Lists;
+
+/// A layout as the port and as the Rust take it.
+pub struct Blocks {
+    pub lists: Lists,
+    pub layout: FieldAwareDofLayout,
+}
+
+impl Blocks {
+    /// Blocks of one size over so many nodes, the last one smaller if need be.
+    pub fn over(nodes: usize, size: u32) -> Self {
+        let mut blocks = entity_major(nodes.div_ceil(size as usize), 1, size);
+        let past = blocks.len() * size as usize - nodes;
+        if let Some(last) = blocks.last_mut() {
+            last.components -= past as u32;
+        }
+        let mut lists = Lists::of(&blocks);
+        let starts = (0..nodes as u64).step_by(size as usize);
+        lists.offsets = starts.chain([nodes as u64]).collect();
+        let layout = FieldAwareDofLayout::new(blocks).expect("an accepted layout");
+        Self { lists, layout }
+    }
+}
 
 /// All fields of the first entity, then all of the second, and so on.
 pub fn entity_major(count: usize, fields: usize, components: u32) -> Vec<DofBlock> {

@@ -6,9 +6,10 @@ mod fixed;
 mod random;
 mod values;
 
+pub use examples::refused as refused_examples;
 pub use expected::accepted;
 pub use fixed::lists;
-pub use random::{damage, finite};
+pub use random::{damage, finite, plant};
 pub use values::{FINITE, NOT_FINITE};
 
 use super::{Function, GroupCall, GroupCalls};

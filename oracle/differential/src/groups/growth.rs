@@ -15,11 +15,17 @@ mod regions;
 pub mod rooms;
 mod small;
 
-pub use cases::{BORDERS, FAR, blocks_of, chain, faulty_part, mask_of, pairs_of, wrong_masks};
-pub use expected::without_words;
+pub use cases::{
+    BORDERS, FAR, blocks_of, chain, cuts, faulty_part, mask_of, pairs_of, wrong_layouts,
+    wrong_masks,
+};
+pub use examples::refused_layouts;
+pub use expected::{opened as opened_layout, without_words};
 pub use fields::cut;
 pub use fixed::{any_way, graphs, one_way, seeds};
-pub use random::{random_seeds, random_side, random_topology};
+pub use random::{
+    hops as random_hops, layout as random_layout, random_seeds, random_side, random_topology,
+};
 pub use small::{each_graph, each_mask};
 
 use super::layout::Layout;
@@ -218,13 +224,13 @@ impl GroupCall for Call {
     }
 }
 
-fn seeds_of<'call>(mask: &'call mut Mask, parts: Parts<'call>) -> Parts<'call> {
+pub fn seeds_of<'call>(mask: &'call mut Mask, parts: Parts<'call>) -> Parts<'call> {
     parts
         .number("len", mask.len as u64)
         .read("words", U64(&mut mask.words))
 }
 
-fn layout_of<'call>(layout: &'call mut Layout, parts: Parts<'call>) -> Parts<'call> {
+pub fn layout_of<'call>(layout: &'call mut Layout, parts: Parts<'call>) -> Parts<'call> {
     let Layout { blocks, offsets } = layout;
     parts
         .read("kinds", U8(&mut blocks.kinds))
@@ -245,7 +251,7 @@ impl Regions {
 }
 
 impl Lent {
-    fn add_to<'call>(&'call mut self, parts: Parts<'call>) -> Parts<'call> {
+    pub fn add_to<'call>(&'call mut self, parts: Parts<'call>) -> Parts<'call> {
         parts
             .written("region", U64(&mut self.region))
             .written("frontier", U64(&mut self.frontier))

@@ -20,6 +20,11 @@ mod small;
 mod strangers;
 mod values;
 
+pub use cases::{of_entries, square, valued};
+pub use expected::opened as opened_matrix;
+pub use rooms::plan_lent;
+pub use small::each_matrix;
+
 use super::csr32::Matrix;
 use super::mask::Mask;
 use super::topology::Topology;
@@ -203,7 +208,7 @@ impl PatternLent {
 }
 
 impl PlanLent {
-    fn add_to<'call>(&'call mut self, parts: Parts<'call>) -> Parts<'call> {
+    pub fn add_to<'call>(&'call mut self, parts: Parts<'call>) -> Parts<'call> {
         self.pattern
             .add_to(parts)
             .written("source_ptr", U32(&mut self.source_ptr))

@@ -184,13 +184,7 @@ impl GroupCall for Call {
                 out.add_to(b.add_to(parts, names!("b.")), names!("out."))
             }
             Call::Validate(topology) | Call::Stats(topology) => topology.parts(),
-            Call::FromCsr32(matrix, out) => {
-                let parts = out.rows.add_to(matrix.parts(), names!("out.rows."));
-                out.columns
-                    .add_to(parts, names!("out.columns."))
-                    .written("starts", U32(&mut out.starts))
-                    .written("order", U32(&mut out.order))
-            }
+            Call::FromCsr32(matrix, out) => out.add_to(matrix.parts()),
             Call::OfRow(topology, row, question) => {
                 let parts = topology
                     .parts()
@@ -289,5 +283,15 @@ impl Lent {
             .written(row_word_ptr, U32(&mut self.row_word_ptr))
             .written(word_indices, U32(&mut self.word_indices))
             .written(masks, U64(&mut self.masks))
+    }
+}
+
+impl BothLent {
+    pub fn add_to<'call>(&'call mut self, parts: Parts<'call>) -> Parts<'call> {
+        let parts = self.rows.add_to(parts, names!("out.rows."));
+        self.columns
+            .add_to(parts, names!("out.columns."))
+            .written("starts", U32(&mut self.starts))
+            .written("order", U32(&mut self.order))
     }
 }

@@ -1,71 +1,23 @@
 -- `peak_job::inner::fault` meets its contract. Assumes nothing.
-use mathlib.Core.Path.{_≡_, sym}
-use mathlib.Core.Bool.{Bool, true, false, not, cond, _&&_}
-use Prim.Native.Nat.{ℕ}
-use native.Mathlib.Omega.{arith}
-use borrow.Author.Tests.{le-leb, lt-leb, not-true, not-false}
-use lib.Dec.{leb}
+use borrow.Author.Needs.{needs}
+use Rattle.peak_job.specs.Steps.{readFits}
+use Rattle.peak_job.proofs.Jobs.{first-is}
 use Rattle.peak_job.proofs.inner.fault.Statement.{statement}
 use Rattle.peak_job.proofs.inner.fault.Tie as tie
 
+malformed-requires : tie.Need-malformed-requires
+malformed-requires c κs = search needs
+
+too-long-requires : tie.Need-too-long-requires
+too-long-requires c κs = search needs
+
+first-requires : tie.Need-first-requires
+first-requires c κs = search needs
+
 returns : tie.Need-returns
-returns c = let g : c .before .before .args .job .good ≡ false = not-true _ (c .if1 .taken) in cc g
-
-returns-2 : tie.Need-returns-2
-returns-2 c =
-    let r = c .before .before .before .before .args .job in
-    let g : r .good ≡ true = not-false _ (c .before .before .if1 .left) in
-    let p2 : leb (r .size) 256 ≡ false = lt-leb (r .size) 256 (omega (arith, c .if2 .taken)) in
-    cc (g, p2)
-
-returns-3 : tie.Need-returns-3
-returns-3 c =
-    let r = c .before .before .before .before .before .before .args .job in
-    let g : r .good ≡ true = not-false _ (c .before .before .before .before .if1 .left) in
-    let p2 : leb (r .size) 256 ≡ true = le-leb (r .size) 256 (omega (arith, c .before .before .if2 .left)) in
-    let p3 : leb (r .blocks) 1023 ≡ false = lt-leb (r .blocks) 1023 (omega (arith, c .if3 .taken)) in
-    cc (g, p2, p3)
-
-returns-4 : tie.Need-returns-4
-returns-4 c =
-    let r = c .before .before .before .before .before .before .before .before .args .job in
-    let g : r .good ≡ true = not-false _ (c .before .before .before .before .before .before .if1 .left) in
-    let p2 : leb (r .size) 256 ≡ true = le-leb (r .size) 256 (omega (arith, c .before .before .before .before .if2 .left)) in
-    let p3 : leb (r .blocks) 1023 ≡ true = le-leb (r .blocks) 1023 (omega (arith, c .before .before .if3 .left)) in
-    let p4 : leb (r .pointers) 1024 ≡ false = lt-leb (r .pointers) 1024 (omega (arith, c .if4 .taken)) in
-    cc (g, p2, p3, p4)
-
-returns-5 : tie.Need-returns-5
-returns-5 c =
-    let r = c .before .before .before .before .before .before .before .before .before .before .args .job in
-    let g : r .good ≡ true = not-false _ (c .before .before .before .before .before .before .before .before .if1 .left) in
-    let p2 : leb (r .size) 256 ≡ true = le-leb (r .size) 256 (omega (arith, c .before .before .before .before .before .before .if2 .left)) in
-    let p3 : leb (r .blocks) 1023 ≡ true = le-leb (r .blocks) 1023 (omega (arith, c .before .before .before .before .if3 .left)) in
-    let p4 : leb (r .pointers) 1024 ≡ true = le-leb (r .pointers) 1024 (omega (arith, c .before .before .if4 .left)) in
-    let p5 : leb (r .columns) 1023 ≡ false = lt-leb (r .columns) 1023 (omega (arith, c .if5 .taken)) in
-    cc (g, p2, p3, p4, p5)
-
-returns-6 : tie.Need-returns-6
-returns-6 c =
-    let r = c .before .before .before .before .before .before .before .before .before .before .before .before .args .job in
-    let g : r .good ≡ true = not-false _ (c .before .before .before .before .before .before .before .before .before .before .if1 .left) in
-    let p2 : leb (r .size) 256 ≡ true = le-leb (r .size) 256 (omega (arith, c .before .before .before .before .before .before .before .before .if2 .left)) in
-    let p3 : leb (r .blocks) 1023 ≡ true = le-leb (r .blocks) 1023 (omega (arith, c .before .before .before .before .before .before .if3 .left)) in
-    let p4 : leb (r .pointers) 1024 ≡ true = le-leb (r .pointers) 1024 (omega (arith, c .before .before .before .before .if4 .left)) in
-    let p5 : leb (r .columns) 1023 ≡ true = le-leb (r .columns) 1023 (omega (arith, c .before .before .if5 .left)) in
-    let p6 : leb (r .seeds) 1024 ≡ false = lt-leb (r .seeds) 1024 (omega (arith, c .if6 .taken)) in
-    cc (g, p2, p3, p4, p5, p6)
-
-returns-7 : tie.Need-returns-7
-returns-7 c =
-    let r = c .before .before .before .before .before .before .before .before .before .before .before .before .args .job in
-    let g : r .good ≡ true = not-false _ (c .before .before .before .before .before .before .before .before .before .before .if1 .left) in
-    let p2 : leb (r .size) 256 ≡ true = le-leb (r .size) 256 (omega (arith, c .before .before .before .before .before .before .before .before .if2 .left)) in
-    let p3 : leb (r .blocks) 1023 ≡ true = le-leb (r .blocks) 1023 (omega (arith, c .before .before .before .before .before .before .if3 .left)) in
-    let p4 : leb (r .pointers) 1024 ≡ true = le-leb (r .pointers) 1024 (omega (arith, c .before .before .before .before .if4 .left)) in
-    let p5 : leb (r .columns) 1023 ≡ true = le-leb (r .columns) 1023 (omega (arith, c .before .before .if5 .left)) in
-    let p6 : leb (r .seeds) 1024 ≡ true = le-leb (r .seeds) 1024 (omega (arith, c .if6 .left)) in
-    cc (g, p2, p3, p4, p5, p6)
+returns c =
+    let job = c .before .before .before .args .job in
+    first-is (job .good) (readFits job) (c .before .before .malformed .result) (c .before .too-long .result) (c .first .result) (c .before .before .malformed .ensures) (c .before .too-long .ensures) (c .first .ensures)
 
 pub fault-spec : {M : Type 1} → statement M
-fault-spec = tie.close (tie.spec returns returns-2 returns-3 returns-4 returns-5 returns-6 returns-7)
+fault-spec = tie.close (tie.spec malformed-requires too-long-requires first-requires returns)

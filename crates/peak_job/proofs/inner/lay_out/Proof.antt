@@ -9,7 +9,7 @@ use lib.ListN.{length, take, replicate, length-replicate}
 use Rattle.base.specs.Checks.{_then_}
 use Rattle.base.specs.Lists.{listFrom}
 use Rattle.base.specs.declared.Checked.{Checked}
-use Rattle.base.proofs.Lists.{over-own}
+use Rattle.base.proofs.Lists.{over-own, take-replicate, take-listFrom}
 use Rattle.csr32.specs.Matrix.{matrixCheck}
 use Rattle.dof_layout.specs.Layout.{offsetsOf}
 use Rattle.dof_layout.specs.Answers.{squareCheck}
@@ -18,7 +18,7 @@ use Rattle.pattern.specs.Pattern.{one}
 use Rattle.job_text.specs.Answer.{textAnswer, textLeft}
 use Rattle.peak_job.specs.Answer.{kindsOf, idsOf, fieldsOf, valuesOf, regionText, textOf}
 use Rattle.peak_job.specs.Steps.{laidCheck}
-use Rattle.peak_job.proofs.Jobs.{take-same, take-places, total-fits}
+use Rattle.peak_job.proofs.Jobs.{total-fits}
 use Rattle.peak_job.proofs.inner.lay_out.Statement.{statement}
 use Rattle.peak_job.proofs.inner.lay_out.Tie as tie
 
@@ -102,12 +102,12 @@ returns c =
     let none : B - 0 ≡ B = omega arith in
     let whole : length cols - 0 ≡ length cols = omega arith in
     let last : B + 1 - 0 ≡ suc B = omega arith in
-    let v : take (length cols - 0) (replicate 1024 one) ≡ valuesOf cols = ap (λ (k : ℕ). take k (replicate 1024 one)) whole ∙ take-same (length cols) 1024 one (omega (arith, s .pre .2)) in
-    let k : take (B - 0) (replicate {A = ℕ} 1024 1) ≡ kindsOf blocks = ap (λ (m : ℕ). take m (replicate {A = ℕ} 1024 1)) none ∙ take-same {A = ℕ} B 1024 1 (omega (arith, s .pre .1)) in
-    let f : take (B - 0) (replicate {A = ℕ} 1024 0) ≡ fieldsOf blocks = ap (λ (m : ℕ). take m (replicate {A = ℕ} 1024 0)) none ∙ take-same {A = ℕ} B 1024 0 (omega (arith, s .pre .1)) in
+    let v : take (length cols - 0) (replicate 1024 one) ≡ valuesOf cols = ap (λ (k : ℕ). take k (replicate 1024 one)) whole ∙ take-replicate (length cols) 1024 one (omega (arith, s .pre .2)) in
+    let k : take (B - 0) (replicate {A = ℕ} 1024 1) ≡ kindsOf blocks = ap (λ (m : ℕ). take m (replicate {A = ℕ} 1024 1)) none ∙ take-replicate {A = ℕ} B 1024 1 (omega (arith, s .pre .1)) in
+    let f : take (B - 0) (replicate {A = ℕ} 1024 0) ≡ fieldsOf blocks = ap (λ (m : ℕ). take m (replicate {A = ℕ} 1024 0)) none ∙ take-replicate {A = ℕ} B 1024 0 (omega (arith, s .pre .1)) in
     let long : length (replicate {A = ℕ} 1024 0) ≡ 1024 = length-replicate {A = ℕ} 1024 0 in
     let i : take (B - 0) (c .before .before .before .before .before .before .before .before .before .before .before .before .before .before .before .before .before .before .number .last .0) ≡ idsOf blocks =
-    ap₂ (λ (m : ℕ) (l : List ℕ). take m l) none (c .before .before .before .before .before .before .before .before .before .before .before .before .before .before .before .before .before .before .number .ensures ∙ ap (λ (m : ℕ). listFrom (λ (b : ℕ). b) m 0) long) ∙ take-places B 1024 (omega (arith, s .pre .1)) in
+    ap₂ (λ (m : ℕ) (l : List ℕ). take m l) none (c .before .before .before .before .before .before .before .before .before .before .before .before .before .before .before .before .before .before .number .ensures ∙ ap (λ (m : ℕ). listFrom (λ (b : ℕ). b) m 0) long) ∙ take-listFrom (λ (b : ℕ). b) B 1024 0 (omega (arith, s .pre .1)) in
     let o : take (B + 1 - 0) (c .before .before .before .before .before .before .before .before .before .before .before .before .before .before .before .write-offsets .last .1 .0) ≡ offsetsOf blocks =
     ap₂ (λ (m : ℕ) (l : List ℕ). take m l) last (c .before .before .before .before .before .before .before .before .before .before .before .before .before .before .before .write-offsets .ensures .1) ∙ over-own (offsetsOf blocks) _ (suc B) (offsets-length blocks) in
     let same : (matrixCheck n n ptr cols (take (length cols - 0) (replicate 1024 one)) then squareCheck (take (B - 0) (replicate {A = ℕ} 1024 1)) (take (B - 0) (c .before .before .before .before .before .before .before .before .before .before .before .before .before .before .before .before .before .before .number .last .0)) (take (B - 0) (replicate {A = ℕ} 1024 0)) blocks (take (B + 1 - 0) (c .before .before .before .before .before .before .before .before .before .before .before .before .before .before .before .write-offsets .last .1 .0)) n n) ≡ laidCheck n blocks ptr cols =

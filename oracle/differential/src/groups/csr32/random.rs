@@ -45,6 +45,27 @@ pub fn finite(rng: &mut Rng) -> f64 {
     }
 }
 
+/// Plants the faults that the bits from the lowest on stand for: that of 1, of 2
+/// and so on to 8. The matrix has some rows and two entries or more.
+pub fn plant(chosen: u64, matrix: &mut Matrix) {
+    for number in (1..=8)
+        .filter(|number| chosen >> (number - 1) & 1 == 1)
+        .rev()
+    {
+        let last = matrix.nrows;
+        match number {
+            1 => matrix.ncols = SIDE_LIMIT + 1,
+            2 => matrix.row_ptr.push(0),
+            3 => drop(matrix.values.pop()),
+            4 => matrix.row_ptr[0] = 1,
+            5 => matrix.row_ptr[last] += 1,
+            6 => matrix.row_ptr[3] = 0,
+            7 => matrix.col_idx[0] = matrix.ncols as u32,
+            _ => matrix.values[1] = f64::NAN,
+        }
+    }
+}
+
 /// One fault; the number is the refusal it leads to if no other comes first.
 /// Some are without effect, where the list is too short for them.
 pub fn damage(rng: &mut Rng, matrix: &mut Matrix) {

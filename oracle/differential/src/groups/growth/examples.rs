@@ -71,8 +71,9 @@ fn refused() -> Vec<(Call, Answer)> {
     ]
 }
 
-/// The table's of a layout, and of owners.
-fn of_layouts() -> Vec<(Call, Answer)> {
+/// The table's of a layout: no blocks; 2,0; the same block twice; kind 7; and
+/// offsets that are not the totals.
+pub fn refused_layouts() -> Vec<(Layout, u32)> {
     let nothing = Layout {
         offsets: vec![0],
         ..blocks_of(&[])
@@ -84,6 +85,17 @@ fn of_layouts() -> Vec<(Call, Answer)> {
     seven.blocks.kinds = vec![7];
     let mut shifted = blocks_of(&[1]);
     shifted.offsets = vec![1, 1];
+    vec![
+        (nothing, 14),
+        (blocks_of(&[2, 0]), 15),
+        (twice, 16),
+        (seven, 17),
+        (shifted, 26),
+    ]
+}
+
+/// The table's of a layout, and of owners.
+fn of_layouts() -> Vec<(Call, Answer)> {
     let two = blocks_of(&[2]);
     let mut all = vec![
         (
@@ -95,13 +107,7 @@ fn of_layouts() -> Vec<(Call, Answer)> {
         (owners(&two, &[1, 9], 4, 1), Answer::refused(21)),
         (owners(&two, &[1, 1], 4, 1), Answer::told(1)),
     ];
-    for (layout, number) in [
-        (nothing, 14),
-        (blocks_of(&[2, 0]), 15),
-        (twice, 16),
-        (seven, 17),
-        (shifted, 26),
-    ] {
+    for (layout, number) in refused_layouts() {
         let selected = mask_of(2, &[]);
         let topology = of_pairs(2, 2, &[]);
         let refused = Answer::refused(number);

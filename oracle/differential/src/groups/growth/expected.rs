@@ -188,7 +188,7 @@ fn accepted_regions(regions: &Regions) -> Result<Vec<DofMask>, Answer> {
 }
 
 /// A layout that 01 accepts, as the type that goes with hand-made masks.
-fn opened(layout: &Layout) -> Result<FieldAwareDofLayout, Answer> {
+pub fn opened(layout: &Layout) -> Result<FieldAwareDofLayout, Answer> {
     let accepted = accepted_layout(layout)?;
     let blocks = accepted.blocks().iter().map(|block| DofBlock {
         entity_kind: DofEntityKind::from_code(block.entity_kind as u32).expect("a known kind"),
@@ -213,7 +213,7 @@ fn told(stats: [usize; 10]) -> Answer {
 impl Lent {
     /// Added refusal 25, else region and frontier over the front of their lists
     /// and zeros over that of the scratch.
-    fn take(&mut self, region: &DofMask, frontier: &DofMask) -> Result<(), Answer> {
+    pub fn take(&mut self, region: &DofMask, frontier: &DofMask) -> Result<(), Answer> {
         let needed = words_needed(region.len());
         if self.lengths().iter().any(|&length| length < needed) {
             return Err(Answer::refused(25));

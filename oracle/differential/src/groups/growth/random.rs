@@ -97,7 +97,7 @@ pub fn random_seeds(rng: &mut Rng, side: usize) -> Mask {
     mask
 }
 
-fn hops(rng: &mut Rng, side: usize) -> u64 {
+pub fn hops(rng: &mut Rng, side: usize) -> u64 {
     match rng.below(12) {
         0 => rng.pick(&FAR),
         1 => rng.below(side + 2) as u64,
@@ -117,7 +117,7 @@ fn grow(rng: &mut Rng) -> Call {
 }
 
 /// Blocks over exactly so many nodes, which is at least 1, mostly.
-fn layout(rng: &mut Rng, side: usize) -> Layout {
+pub fn layout(rng: &mut Rng, side: usize) -> Layout {
     let most = rng.pick(&[1, 2, 3, 3, 5, 70]);
     let sizes = cut(side, || 1 + rng.below(most));
     let mut list = numbered(&sizes);

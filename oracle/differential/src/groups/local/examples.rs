@@ -5,7 +5,7 @@ use super::cases::{plan_in, topology_of};
 use super::{Call, expected, same_bits};
 use crate::answer::Answer;
 use crate::expected::SIDE_LIMIT;
-use crate::groups::csr32::Matrix;
+use crate::groups::csr32::{Matrix, refused_examples};
 use crate::groups::growth::mask_of;
 use crate::groups::mask::Mask;
 use crate::groups::topology::of_pairs;
@@ -118,30 +118,11 @@ fn of_pattern() -> Vec<(Call, Answer)> {
 
 /// The table's of a matrix: 1 to 8.
 fn of_matrix() -> Vec<(Call, Answer)> {
-    let infinity = f64::INFINITY;
-    let rows: [(usize, usize, &[u32], &[u32], &[f64], u32); 8] = [
-        (SIDE_LIMIT + 1, 1, &[0], &[], &[], 1),
-        (2, 1, &[0, 1], &[0], &[1.0], 2),
-        (1, 1, &[0, 1], &[0], &[], 3),
-        (1, 1, &[1, 1], &[0], &[1.0], 4),
-        (1, 1, &[0, 2], &[0], &[1.0], 5),
-        (2, 1, &[0, 2, 1], &[0], &[1.0], 6),
-        (1, 3, &[0, 1], &[3], &[1.0], 7),
-        (1, 1, &[0, 1], &[0], &[infinity], 8),
-    ];
     let topology = of_pairs(1, 1, &[(0, 0)]);
     let region = mask_of(1, &[0]);
-    rows.into_iter()
-        .map(|(nrows, ncols, row_ptr, col_idx, values, number)| {
-            let matrix = Matrix {
-                nrows,
-                ncols,
-                row_ptr: row_ptr.to_vec(),
-                col_idx: col_idx.to_vec(),
-                values: values.to_vec(),
-            };
-            (plan(&topology, &matrix, &region), Answer::refused(number))
-        })
+    let refused = refused_examples().into_iter();
+    refused
+        .map(|(matrix, number)| (plan(&topology, &matrix, &region), Answer::refused(number)))
         .collect()
 }
 

@@ -151,7 +151,7 @@ fn hand_made(call: &Gather) -> AbtmLocalNumericPlan {
 }
 
 /// The type that goes with hand-made topologies and masks.
-fn opened(matrix: &Matrix) -> Csr32Matrix {
+pub fn opened(matrix: &Matrix) -> Csr32Matrix {
     Csr32Matrix {
         nrows: matrix.nrows,
         ncols: matrix.ncols,

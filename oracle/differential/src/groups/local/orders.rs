@@ -2,7 +2,7 @@
 
 use super::cases::of_entries;
 use super::{Call, rooms};
-use crate::groups::csr32::Matrix;
+use crate::groups::csr32::{Matrix, plant};
 use crate::groups::growth::mask_of;
 use crate::groups::mask::Mask;
 use crate::groups::topology::{Topology, of_pairs};
@@ -12,18 +12,13 @@ pub fn run(run: &mut dyn FnMut(Call)) {
     plans(run);
 }
 
-/// What can be wrong, in the order in which a plan's checks come to it.
+/// The first faults are those of a matrix, 1 to 8.
+const OF_MATRIX: isize = 8;
+
+/// What else can be wrong, in the order in which a plan's checks come to it.
 #[derive(Clone, Copy)]
 enum Fault {
-    MatrixSide,
-    Pointers,
-    Values,
-    FirstPointer,
-    LastPointer,
-    FallingPointer,
-    Column,
-    NotFinite,
-    RowsOver,
+    RowsOver = OF_MATRIX,
     ColumnsOver,
     RowsEmptyWord,
     ColumnsEmptyWord,
@@ -57,8 +52,7 @@ impl Chosen {
 }
 
 /// Up to four of the faults from a first one on, and all of them from there.
-fn each(first: Fault, work: &mut dyn FnMut(Chosen)) {
-    let first = first as u32;
+fn each(first: u32, work: &mut dyn FnMut(Chosen)) {
     work(Chosen(0));
     for a in first..FAULTS {
         for b in a..FAULTS {
@@ -96,35 +90,8 @@ fn matrix(chosen: Chosen) -> Matrix {
     if chosen.has(Fault::NotSquare) {
         matrix.ncols = 67;
     }
-    damage(chosen, &mut matrix);
+    plant(u64::from(chosen.0), &mut matrix);
     matrix
-}
-
-fn damage(chosen: Chosen, matrix: &mut Matrix) {
-    if chosen.has(Fault::Column) {
-        matrix.col_idx[0] = 67;
-    }
-    if chosen.has(Fault::NotFinite) {
-        matrix.values[1] = f64::NAN;
-    }
-    if chosen.has(Fault::FirstPointer) {
-        matrix.row_ptr[0] = 1;
-    }
-    if chosen.has(Fault::FallingPointer) {
-        matrix.row_ptr[3] = 0;
-    }
-    if chosen.has(Fault::LastPointer) {
-        *matrix.row_ptr.last_mut().expect("pointers") += 1;
-    }
-    if chosen.has(Fault::Values) {
-        matrix.values.pop();
-    }
-    if chosen.has(Fault::Pointers) {
-        matrix.row_ptr.push(0);
-    }
-    if chosen.has(Fault::MatrixSide) {
-        matrix.ncols = (1 << 20) + 1;
-    }
 }
 
 fn topology(chosen: Chosen) -> Topology {
@@ -187,7 +154,7 @@ fn lengths(chosen: Chosen) -> [usize; 5] {
 }
 
 fn patterns(run: &mut dyn FnMut(Call)) {
-    each(Fault::RowsOver, &mut |chosen| {
+    each(Fault::RowsOver as u32, &mut |chosen| {
         run(Call::Pattern {
             topology: topology(chosen),
             region: region(chosen),
@@ -197,7 +164,7 @@ fn patterns(run: &mut dyn FnMut(Call)) {
 }
 
 fn plans(run: &mut dyn FnMut(Call)) {
-    each(Fault::MatrixSide, &mut |chosen| {
+    each(0, &mut |chosen| {
         run(Call::Plan {
             topology: topology(chosen),
             matrix: matrix(chosen),

@@ -19,7 +19,7 @@ pub fn run(run: &mut dyn FnMut(Call)) {
 }
 
 /// A matrix for each set of entries, its rows rising or falling.
-fn each_matrix(side: usize, falling: bool, work: &mut dyn FnMut(&Matrix)) {
+pub fn each_matrix(side: usize, falling: bool, work: &mut dyn FnMut(&Matrix)) {
     for chosen in 0..1 << (side * side) {
         let mut entries = pairs_of(side, chosen);
         if falling {

@@ -78,17 +78,10 @@ fn from_csr32(matrix: &Matrix, out: &mut BothLent) -> Result<Answer, Answer> {
     let topology = original::AbtmDualTopology::from_csr32(&matrix).map_err(refusal)?;
     let (rows, columns) = (topology.row_topology(), topology.column_topology());
     let entries = matrix.nnz();
-    if !out.rows.has_room(matrix.nrows(), entries)
-        || !out.columns.has_room(matrix.ncols(), entries)
-        || out.starts.len() < matrix.ncols() + 1
-        || out.order.len() < entries
-    {
+    if !out.has_room(matrix.nrows(), matrix.ncols(), entries) {
         return Err(Answer::refused(25));
     }
-    out.rows.take(&lists(rows), entries);
-    out.columns.take(&lists(columns), entries);
-    out.starts[..matrix.ncols() + 1].fill(0);
-    out.order[..entries].fill(0);
+    out.take(&lists(rows), &lists(columns), entries);
     Ok(Answer::told_all(&[
         rows.nonempty_words() as u64,
         columns.nonempty_words() as u64,
@@ -237,6 +230,23 @@ impl Lent {
         self.word_indices[..answer.word_indices.len()].copy_from_slice(&answer.word_indices);
         self.masks[..words].fill(0);
         self.masks[..answer.masks.len()].copy_from_slice(&answer.masks);
+    }
+}
+
+impl BothLent {
+    pub fn has_room(&self, nrows: usize, ncols: usize, entries: usize) -> bool {
+        self.rows.has_room(nrows, entries)
+            && self.columns.has_room(ncols, entries)
+            && self.starts.len() > ncols
+            && self.order.len() >= entries
+    }
+
+    /// Both sides over their lists, then zeros over the scratch.
+    pub fn take(&mut self, rows: &Lent, columns: &Lent, entries: usize) {
+        self.rows.take(rows, entries);
+        self.columns.take(columns, entries);
+        self.starts[..columns.row_word_ptr.len()].fill(0);
+        self.order[..entries].fill(0);
     }
 }
 
