@@ -49,13 +49,12 @@ fn read_lists(
 // The whole text is read, also where a line before was bad or a list is longer than the one that it goes to.
 pub fn read_job(
     text: &[u8],
-    spare: &mut [u64],
     blocks: &mut [u32],
     ptr: &mut [u32],
     cols: &mut [u32],
     seeds: &mut [u64],
 ) -> JobRead
-    requires { ⌜ (length (now spare) ≡ length (now blocks)) × (length (now spare) ≡ length (now ptr)) × (length (now spare) ≡ length (now cols)) ⌝ }
+    requires { ⌜ (length (now blocks) ≡ 1024) × (length (now ptr) ≡ 1024) × (length (now cols) ≡ 1024) ⌝ }
     ensures { λ r. ⌜ r .good ≡ isJob (now (text .entry)) ⌝ }
     ensures { λ r. ⌜ (r .size ≡ jobOf (now (text .entry)) .size) × (r .hops ≡ jobOf (now (text .entry)) .hops) ⌝ }
     ensures { λ r. ⌜ (r .blocks ≡ length (jobOf (now (text .entry)) .blocks)) × (r .pointers ≡ length (jobOf (now (text .entry)) .ptr)) × (r .columns ≡ length (jobOf (now (text .entry)) .cols)) × (r .seeds ≡ length (jobOf (now (text .entry)) .seeds)) ⌝ }
@@ -64,9 +63,10 @@ pub fn read_job(
     ensures columns { λ _. ⌜ now (cols .exit) ≡ over (take (length (now (cols .entry))) (jobOf (now (text .entry)) .cols)) (now (cols .entry)) ⌝ }
     ensures selected { λ _. ⌜ now (seeds .exit) ≡ over (take (length (now (seeds .entry))) (jobOf (now (text .entry)) .seeds)) (now (seeds .entry)) ⌝ }
 {
+    let mut spare: [u64; 1024] = [0; 1024];
     let size = text_reading::inner::number_line(text, b"size=", u64::MAX);
     let a = size.next;
-    let lists = read_lists(&text[a..], spare, blocks, ptr, cols);
+    let lists = read_lists(&text[a..], &mut spare, blocks, ptr, cols);
     let b = a + lists.next;
     let line = text_reading::inner::list_line(&text[b..], b"seeds=", u64::MAX, seeds);
     let d = b + line.next;

@@ -12,18 +12,10 @@ pub fn run(input: &[u8], out: &mut [u8]) -> Counted
     ensures { λ r. ⌜ r ≡ textAnswer (answerText (now (input .entry))) (now (out .entry)) ⌝ }
     ensures { λ _. ⌜ now (out .exit) ≡ textLeft (answerText (now (input .entry))) (now (out .entry)) ⌝ }
 {
-    let mut spare: [u64; 1024] = [0; 1024];
     let mut blocks: [u32; 1024] = [0; 1024];
     let mut ptr: [u32; 1024] = [0; 1024];
     let mut cols: [u32; 1024] = [0; 1024];
     let mut seeds: [u64; 1024] = [0; 1024];
-    let job = job_text::inner::read_job(
-        input,
-        &mut spare,
-        &mut blocks,
-        &mut ptr,
-        &mut cols,
-        &mut seeds,
-    );
+    let job = job_text::inner::read_job(input, &mut blocks, &mut ptr, &mut cols, &mut seeds);
     inner::judge(job, &blocks, &ptr, &cols, &seeds, out)
 }

@@ -21,9 +21,6 @@ slice-aggregate-read-job-3 c = search needs
 slice-aggregate-read-job-4 : tie.Need-slice-aggregate-read-job-4
 slice-aggregate-read-job-4 c = search needs
 
-slice-aggregate-read-job-5 : tie.Need-slice-aggregate-read-job-5
-slice-aggregate-read-job-5 c = search needs
-
 read-job-requires : tie.Need-read-job-requires
 read-job-requires c κs = search needs
 
@@ -47,9 +44,9 @@ same-length c = search needs
 
 returns : tie.Need-returns
 returns c =
-    let s = c .before .before .before .before .before .before .before .before .before .before .before .before .before .before .before .before .before .before .before .before .before in
+    let s = c .before .before .before .before .before .before .before .before .before .before .before .before .before .before .before .before .before .before .before in
     let t = s .args .input .now in
-    let j = c .before .before .before .before .before .before .before .before .before .before .before .before .before .read-job in
+    let j = c .before .before .before .before .before .before .before .before .before .before .before .before .read-job in
     let z : List ℕ = replicate {A = ℕ} 1024 0 in
     let long : length z ≡ 1024 = length-replicate {A = ℕ} 1024 0 in
     let e = j .ensures in
@@ -64,7 +61,6 @@ run-spec =
     slice-aggregate-read-job-2
     slice-aggregate-read-job-3
     slice-aggregate-read-job-4
-    slice-aggregate-read-job-5
     read-job-requires
     slice-aggregate-judge
     slice-aggregate-judge-2

@@ -30,17 +30,20 @@ part-read-lists-start c = search needs
 part-read-lists-end : tie.Need-part-read-lists-end
 part-read-lists-end c = search needs
 
+slice-aggregate-read-lists : tie.Need-slice-aggregate-read-lists
+slice-aggregate-read-lists c = search needs
+
 read-lists-requires : tie.Need-read-lists-requires
 read-lists-requires c κs = search needs
 
 add-b : tie.Need-add-b
 add-b c =
-    let t = c .before .before .before .before .before .before .before .before .before .before .before .before .before .before .before .before .before .before .before .before .before .before .before .args .text .now in
-    let A = c .before .before .before .before .before .before .before .before .before .before .before .before .before .before .before .number-line .result .next in
-    let a : A ≤ length t = c .before .before .before .before .before .before .before .before .before .before .before .before .before .before .before .number-line .ensures .1 .1 .0 in
-    let B = A + c .before .before .before .before .before .before .before .before .before .read-lists .result .next in
-    let b : B ≤ length t = part-within t A (c .before .before .before .before .before .before .before .before .before .read-lists .result .next) a (c .before .before .before .before .before .before .before .before .before .read-lists .ensures .1 .1 .0 .0) in
-    omega (arith, b, c .before .before .before .before .before .before .before .before .before .before .before .before .before .before .before .before .before .before .before .before .before .before .before .good .0 .0)
+    let t = c .before .before .before .before .before .before .before .before .before .before .before .before .before .before .before .before .before .before .before .before .before .args .text .now in
+    let A = c .before .before .before .before .before .before .before .before .before .before .before .before .before .before .number-line .result .next in
+    let a : A ≤ length t = c .before .before .before .before .before .before .before .before .before .before .before .before .before .before .number-line .ensures .1 .1 .0 in
+    let B = A + c .before .before .before .before .before .before .before .before .read-lists .result .next in
+    let b : B ≤ length t = part-within t A (c .before .before .before .before .before .before .before .before .read-lists .result .next) a (c .before .before .before .before .before .before .before .before .read-lists .ensures .1 .1 .0 .0) in
+    omega (arith, b, c .before .before .before .before .before .before .before .before .before .before .before .before .before .before .before .before .before .before .before .before .before .good .0 .0)
 
 sub-list-line : tie.Need-sub-list-line
 sub-list-line c = search needs
@@ -59,33 +62,33 @@ list-line-requires c κs = search needs
 
 add-d : tie.Need-add-d
 add-d c =
-    let t = c .before .before .before .before .before .before .before .before .before .before .before .before .before .before .before .before .before .before .before .before .before .before .before .before .before .before .before .before .before .before .args .text .now in
-    let A = c .before .before .before .before .before .before .before .before .before .before .before .before .before .before .before .before .before .before .before .before .before .before .number-line .result .next in
-    let a : A ≤ length t = c .before .before .before .before .before .before .before .before .before .before .before .before .before .before .before .before .before .before .before .before .before .before .number-line .ensures .1 .1 .0 in
-    let B = A + c .before .before .before .before .before .before .before .before .before .before .before .before .before .before .before .before .read-lists .result .next in
-    let b : B ≤ length t = part-within t A (c .before .before .before .before .before .before .before .before .before .before .before .before .before .before .before .before .read-lists .result .next) a (c .before .before .before .before .before .before .before .before .before .before .before .before .before .before .before .before .read-lists .ensures .1 .1 .0 .0) in
+    let t = c .before .before .before .before .before .before .before .before .before .before .before .before .before .before .before .before .before .before .before .before .before .before .before .before .before .before .before .before .args .text .now in
+    let A = c .before .before .before .before .before .before .before .before .before .before .before .before .before .before .before .before .before .before .before .before .before .number-line .result .next in
+    let a : A ≤ length t = c .before .before .before .before .before .before .before .before .before .before .before .before .before .before .before .before .before .before .before .before .before .number-line .ensures .1 .1 .0 in
+    let B = A + c .before .before .before .before .before .before .before .before .before .before .before .before .before .before .before .read-lists .result .next in
+    let b : B ≤ length t = part-within t A (c .before .before .before .before .before .before .before .before .before .before .before .before .before .before .before .read-lists .result .next) a (c .before .before .before .before .before .before .before .before .before .before .before .before .before .before .before .read-lists .ensures .1 .1 .0 .0) in
     let D = B + c .before .before .before .list-line .result .next in
     let d : D ≤ length t = part-within t B (c .before .before .before .list-line .result .next) b (c .before .before .before .list-line .ensures .1 .1 .0) in
-    omega (arith, d, c .before .before .before .before .before .before .before .before .before .before .before .before .before .before .before .before .before .before .before .before .before .before .before .before .before .before .before .before .before .before .good .0 .0)
+    omega (arith, d, c .before .before .before .before .before .before .before .before .before .before .before .before .before .before .before .before .before .before .before .before .before .before .before .before .before .before .before .before .good .0 .0)
 
 sub-number-line : tie.Need-sub-number-line
 sub-number-line c =
-    let t = c .before .before .before .before .before .before .before .before .before .before .before .before .before .before .before .before .before .before .before .before .before .before .before .before .before .before .before .before .before .before .args .text .now in
-    let A = c .before .before .before .before .before .before .before .before .before .before .before .before .before .before .before .before .before .before .before .before .before .before .number-line .result .next in
-    let a : A ≤ length t = c .before .before .before .before .before .before .before .before .before .before .before .before .before .before .before .before .before .before .before .before .before .before .number-line .ensures .1 .1 .0 in
-    let B = A + c .before .before .before .before .before .before .before .before .before .before .before .before .before .before .before .before .read-lists .result .next in
-    let b : B ≤ length t = part-within t A (c .before .before .before .before .before .before .before .before .before .before .before .before .before .before .before .before .read-lists .result .next) a (c .before .before .before .before .before .before .before .before .before .before .before .before .before .before .before .before .read-lists .ensures .1 .1 .0 .0) in
+    let t = c .before .before .before .before .before .before .before .before .before .before .before .before .before .before .before .before .before .before .before .before .before .before .before .before .before .before .before .before .args .text .now in
+    let A = c .before .before .before .before .before .before .before .before .before .before .before .before .before .before .before .before .before .before .before .before .before .number-line .result .next in
+    let a : A ≤ length t = c .before .before .before .before .before .before .before .before .before .before .before .before .before .before .before .before .before .before .before .before .before .number-line .ensures .1 .1 .0 in
+    let B = A + c .before .before .before .before .before .before .before .before .before .before .before .before .before .before .before .read-lists .result .next in
+    let b : B ≤ length t = part-within t A (c .before .before .before .before .before .before .before .before .before .before .before .before .before .before .before .read-lists .result .next) a (c .before .before .before .before .before .before .before .before .before .before .before .before .before .before .before .read-lists .ensures .1 .1 .0 .0) in
     let D = B + c .before .before .before .list-line .result .next in
     let d : D ≤ length t = part-within t B (c .before .before .before .list-line .result .next) b (c .before .before .before .list-line .ensures .1 .1 .0) in
     omega (arith, d)
 
 part-number-line-start : tie.Need-part-number-line-start
 part-number-line-start c =
-    let t = c .before .before .before .before .before .before .before .before .before .before .before .before .before .before .before .before .before .before .before .before .before .before .before .before .before .before .before .before .before .before .args .text .now in
-    let A = c .before .before .before .before .before .before .before .before .before .before .before .before .before .before .before .before .before .before .before .before .before .before .number-line .result .next in
-    let a : A ≤ length t = c .before .before .before .before .before .before .before .before .before .before .before .before .before .before .before .before .before .before .before .before .before .before .number-line .ensures .1 .1 .0 in
-    let B = A + c .before .before .before .before .before .before .before .before .before .before .before .before .before .before .before .before .read-lists .result .next in
-    let b : B ≤ length t = part-within t A (c .before .before .before .before .before .before .before .before .before .before .before .before .before .before .before .before .read-lists .result .next) a (c .before .before .before .before .before .before .before .before .before .before .before .before .before .before .before .before .read-lists .ensures .1 .1 .0 .0) in
+    let t = c .before .before .before .before .before .before .before .before .before .before .before .before .before .before .before .before .before .before .before .before .before .before .before .before .before .before .before .before .args .text .now in
+    let A = c .before .before .before .before .before .before .before .before .before .before .before .before .before .before .before .before .before .before .before .before .before .number-line .result .next in
+    let a : A ≤ length t = c .before .before .before .before .before .before .before .before .before .before .before .before .before .before .before .before .before .before .before .before .before .number-line .ensures .1 .1 .0 in
+    let B = A + c .before .before .before .before .before .before .before .before .before .before .before .before .before .before .before .read-lists .result .next in
+    let b : B ≤ length t = part-within t A (c .before .before .before .before .before .before .before .before .before .before .before .before .before .before .before .read-lists .result .next) a (c .before .before .before .before .before .before .before .before .before .before .before .before .before .before .before .read-lists .ensures .1 .1 .0 .0) in
     let D = B + c .before .before .before .list-line .result .next in
     let d : D ≤ length t = part-within t B (c .before .before .before .list-line .result .next) b (c .before .before .before .list-line .ensures .1 .1 .0) in
     omega (arith, d)
@@ -101,24 +104,24 @@ number-line-requires-2 c κs = search needs
 
 add-left : tie.Need-add-left
 add-left c =
-    let t = c .before .before .before .before .before .before .before .before .before .before .before .before .before .before .before .before .before .before .before .before .before .before .before .before .before .before .before .before .before .before .before .before .before .before .args .text .now in
-    let A = c .before .before .before .before .before .before .before .before .before .before .before .before .before .before .before .before .before .before .before .before .before .before .before .before .before .before .number-line .result .next in
-    let a : A ≤ length t = c .before .before .before .before .before .before .before .before .before .before .before .before .before .before .before .before .before .before .before .before .before .before .before .before .before .before .number-line .ensures .1 .1 .0 in
-    let B = A + c .before .before .before .before .before .before .before .before .before .before .before .before .before .before .before .before .before .before .before .before .read-lists .result .next in
-    let b : B ≤ length t = part-within t A (c .before .before .before .before .before .before .before .before .before .before .before .before .before .before .before .before .before .before .before .before .read-lists .result .next) a (c .before .before .before .before .before .before .before .before .before .before .before .before .before .before .before .before .before .before .before .before .read-lists .ensures .1 .1 .0 .0) in
+    let t = c .before .before .before .before .before .before .before .before .before .before .before .before .before .before .before .before .before .before .before .before .before .before .before .before .before .before .before .before .before .before .before .before .args .text .now in
+    let A = c .before .before .before .before .before .before .before .before .before .before .before .before .before .before .before .before .before .before .before .before .before .before .before .before .before .number-line .result .next in
+    let a : A ≤ length t = c .before .before .before .before .before .before .before .before .before .before .before .before .before .before .before .before .before .before .before .before .before .before .before .before .before .number-line .ensures .1 .1 .0 in
+    let B = A + c .before .before .before .before .before .before .before .before .before .before .before .before .before .before .before .before .before .before .before .read-lists .result .next in
+    let b : B ≤ length t = part-within t A (c .before .before .before .before .before .before .before .before .before .before .before .before .before .before .before .before .before .before .before .read-lists .result .next) a (c .before .before .before .before .before .before .before .before .before .before .before .before .before .before .before .before .before .before .before .read-lists .ensures .1 .1 .0 .0) in
     let D = B + c .before .before .before .before .before .before .before .list-line .result .next in
     let d : D ≤ length t = part-within t B (c .before .before .before .before .before .before .before .list-line .result .next) b (c .before .before .before .before .before .before .before .list-line .ensures .1 .1 .0) in
     let E = D + c .before .number-line2 .result .next in
     let e : E ≤ length t = part-within t D (c .before .number-line2 .result .next) d (c .before .number-line2 .ensures .1 .1 .0) in
-    omega (arith, e, c .before .before .before .before .before .before .before .before .before .before .before .before .before .before .before .before .before .before .before .before .before .before .before .before .before .before .before .before .before .before .before .before .before .before .good .0 .0)
+    omega (arith, e, c .before .before .before .before .before .before .before .before .before .before .before .before .before .before .before .before .before .before .before .before .before .before .before .before .before .before .before .before .before .before .before .before .good .0 .0)
 
 sub-left : tie.Need-sub-left
 sub-left c =
-    let t = c .before .before .before .before .before .before .before .before .before .before .before .before .before .before .before .before .before .before .before .before .before .before .before .before .before .before .before .before .before .before .before .before .before .before .args .text .now in
-    let A = c .before .before .before .before .before .before .before .before .before .before .before .before .before .before .before .before .before .before .before .before .before .before .before .before .before .before .number-line .result .next in
-    let a : A ≤ length t = c .before .before .before .before .before .before .before .before .before .before .before .before .before .before .before .before .before .before .before .before .before .before .before .before .before .before .number-line .ensures .1 .1 .0 in
-    let B = A + c .before .before .before .before .before .before .before .before .before .before .before .before .before .before .before .before .before .before .before .before .read-lists .result .next in
-    let b : B ≤ length t = part-within t A (c .before .before .before .before .before .before .before .before .before .before .before .before .before .before .before .before .before .before .before .before .read-lists .result .next) a (c .before .before .before .before .before .before .before .before .before .before .before .before .before .before .before .before .before .before .before .before .read-lists .ensures .1 .1 .0 .0) in
+    let t = c .before .before .before .before .before .before .before .before .before .before .before .before .before .before .before .before .before .before .before .before .before .before .before .before .before .before .before .before .before .before .before .before .args .text .now in
+    let A = c .before .before .before .before .before .before .before .before .before .before .before .before .before .before .before .before .before .before .before .before .before .before .before .before .before .number-line .result .next in
+    let a : A ≤ length t = c .before .before .before .before .before .before .before .before .before .before .before .before .before .before .before .before .before .before .before .before .before .before .before .before .before .number-line .ensures .1 .1 .0 in
+    let B = A + c .before .before .before .before .before .before .before .before .before .before .before .before .before .before .before .before .before .before .before .read-lists .result .next in
+    let b : B ≤ length t = part-within t A (c .before .before .before .before .before .before .before .before .before .before .before .before .before .before .before .before .before .before .before .read-lists .result .next) a (c .before .before .before .before .before .before .before .before .before .before .before .before .before .before .before .before .before .before .before .read-lists .ensures .1 .1 .0 .0) in
     let D = B + c .before .before .before .before .before .before .before .list-line .result .next in
     let d : D ≤ length t = part-within t B (c .before .before .before .before .before .before .before .list-line .result .next) b (c .before .before .before .before .before .before .before .list-line .ensures .1 .1 .0) in
     let E = D + c .before .number-line2 .result .next in
@@ -141,34 +144,31 @@ both-requires-5 : tie.Need-both-requires-5
 both-requires-5 c κs = search needs
 
 same-length : tie.Need-same-length
-same-length c = c .before .before .before .before .before .before .before .before .before .before .before .before .before .before .before .before .before .before .before .before .before .before .before .before .before .read-lists .kept .1 .0
+same-length c = c .before .before .before .before .before .before .before .before .before .before .before .before .before .before .before .before .before .before .before .before .before .before .before .before .read-lists .kept .1 .1 .0
 
 same-length-2 : tie.Need-same-length-2
-same-length-2 c = c .before .before .before .before .before .before .before .before .before .before .before .before .before .before .before .before .before .before .before .before .before .before .before .before .before .read-lists .kept .1 .1 .0
+same-length-2 c = c .before .before .before .before .before .before .before .before .before .before .before .before .before .before .before .before .before .before .before .before .before .before .before .before .read-lists .kept .1 .1 .1 .0
 
 same-length-3 : tie.Need-same-length-3
-same-length-3 c = c .before .before .before .before .before .before .before .before .before .before .before .before .before .before .before .before .before .before .before .before .before .before .before .before .before .read-lists .kept .1 .1 .1 .0
+same-length-3 c = search needs
 
 same-length-4 : tie.Need-same-length-4
 same-length-4 c = search needs
 
-same-length-5 : tie.Need-same-length-5
-same-length-5 c = search needs
-
 returns : tie.Need-returns
 unfolding isJob jobOf listAt numberAt fromLine
 returns c =
-    let t = c .before .before .before .before .before .before .before .before .before .before .before .before .before .before .before .before .before .before .before .before .before .before .before .before .before .before .before .before .before .before .before .before .before .before .before .before .before .before .before .args .text .now in
-    let A = c .before .before .before .before .before .before .before .before .before .before .before .before .before .before .before .before .before .before .before .before .before .before .before .before .before .before .before .before .before .before .before .number-line .result .next in
-    let a : A ≤ length t = c .before .before .before .before .before .before .before .before .before .before .before .before .before .before .before .before .before .before .before .before .before .before .before .before .before .before .before .before .before .before .before .number-line .ensures .1 .1 .0 in
-    let B = A + c .before .before .before .before .before .before .before .before .before .before .before .before .before .before .before .before .before .before .before .before .before .before .before .before .before .read-lists .result .next in
-    let b : B ≤ length t = part-within t A (c .before .before .before .before .before .before .before .before .before .before .before .before .before .before .before .before .before .before .before .before .before .before .before .before .before .read-lists .result .next) a (c .before .before .before .before .before .before .before .before .before .before .before .before .before .before .before .before .before .before .before .before .before .before .before .before .before .read-lists .ensures .1 .1 .0 .0) in
+    let t = c .before .before .before .before .before .before .before .before .before .before .before .before .before .before .before .before .before .before .before .before .before .before .before .before .before .before .before .before .before .before .before .before .before .before .before .before .before .args .text .now in
+    let A = c .before .before .before .before .before .before .before .before .before .before .before .before .before .before .before .before .before .before .before .before .before .before .before .before .before .before .before .before .before .before .number-line .result .next in
+    let a : A ≤ length t = c .before .before .before .before .before .before .before .before .before .before .before .before .before .before .before .before .before .before .before .before .before .before .before .before .before .before .before .before .before .before .number-line .ensures .1 .1 .0 in
+    let B = A + c .before .before .before .before .before .before .before .before .before .before .before .before .before .before .before .before .before .before .before .before .before .before .before .before .read-lists .result .next in
+    let b : B ≤ length t = part-within t A (c .before .before .before .before .before .before .before .before .before .before .before .before .before .before .before .before .before .before .before .before .before .before .before .before .read-lists .result .next) a (c .before .before .before .before .before .before .before .before .before .before .before .before .before .before .before .before .before .before .before .before .before .before .before .before .read-lists .ensures .1 .1 .0 .0) in
     let D = B + c .before .before .before .before .before .before .before .before .before .before .before .before .list-line .result .next in
     let d : D ≤ length t = part-within t B (c .before .before .before .before .before .before .before .before .before .before .before .before .list-line .result .next) b (c .before .before .before .before .before .before .before .before .before .before .before .before .list-line .ensures .1 .1 .0) in
     let E = D + c .before .before .before .before .before .before .number-line2 .result .next in
     let e : E ≤ length t = part-within t D (c .before .before .before .before .before .before .number-line2 .result .next) d (c .before .before .before .before .before .before .number-line2 .ensures .1 .1 .0) in
-    let n = c .before .before .before .before .before .before .before .before .before .before .before .before .before .before .before .before .before .before .before .before .before .before .before .before .before .before .before .before .before .before .before .number-line in
-    let l = c .before .before .before .before .before .before .before .before .before .before .before .before .before .before .before .before .before .before .before .before .before .before .before .before .before .read-lists in
+    let n = c .before .before .before .before .before .before .before .before .before .before .before .before .before .before .before .before .before .before .before .before .before .before .before .before .before .before .before .before .before .before .number-line in
+    let l = c .before .before .before .before .before .before .before .before .before .before .before .before .before .before .before .before .before .before .before .before .before .before .before .before .read-lists in
     let m = c .before .before .before .before .before .before .before .before .before .before .before .before .list-line in
     let h = c .before .before .before .before .before .before .number-line2 in
     let T1 : List ℕ = take (length t - A) (drop A t) in
@@ -200,12 +200,12 @@ returns c =
             m .ensures .1 .0 ∙ ap (λ (x : List ℕ). length (listOf most64 (valueOf seedsKey x))) t4,
           ),
           (
-            l .ensures .1 .1 .1 .0 ∙ ap (λ (x : List ℕ). over (take (length (c .before .before .before .before .before .before .before .before .before .before .before .before .before .before .before .before .before .before .before .before .before .before .before .before .before .before .before .before .before .before .before .before .before .before .before .before .before .before .before .args .blocks .now)) (listOf most32 (valueOf blocksKey x))) (c .before .before .before .before .before .before .before .before .before .before .before .before .before .before .before .before .before .before .before .before .before .before .before .before .before .before .before .before .before .before .before .before .before .before .before .before .before .before .before .args .blocks .now)) t1,
+            l .ensures .1 .1 .1 .0 ∙ ap (λ (x : List ℕ). over (take (length (c .before .before .before .before .before .before .before .before .before .before .before .before .before .before .before .before .before .before .before .before .before .before .before .before .before .before .before .before .before .before .before .before .before .before .before .before .before .args .blocks .now)) (listOf most32 (valueOf blocksKey x))) (c .before .before .before .before .before .before .before .before .before .before .before .before .before .before .before .before .before .before .before .before .before .before .before .before .before .before .before .before .before .before .before .before .before .before .before .before .before .args .blocks .now)) t1,
             (
-              l .ensures .1 .1 .1 .1 .0 ∙ ap (λ (x : List ℕ). over (take (length (c .before .before .before .before .before .before .before .before .before .before .before .before .before .before .before .before .before .before .before .before .before .before .before .before .before .before .before .before .before .before .before .before .before .before .before .before .before .before .before .args .ptr .now)) (listOf most32 (valueOf ptrKey (fromLine 1 x)))) (c .before .before .before .before .before .before .before .before .before .before .before .before .before .before .before .before .before .before .before .before .before .before .before .before .before .before .before .before .before .before .before .before .before .before .before .before .before .before .before .args .ptr .now)) t1,
+              l .ensures .1 .1 .1 .1 .0 ∙ ap (λ (x : List ℕ). over (take (length (c .before .before .before .before .before .before .before .before .before .before .before .before .before .before .before .before .before .before .before .before .before .before .before .before .before .before .before .before .before .before .before .before .before .before .before .before .before .args .ptr .now)) (listOf most32 (valueOf ptrKey (fromLine 1 x)))) (c .before .before .before .before .before .before .before .before .before .before .before .before .before .before .before .before .before .before .before .before .before .before .before .before .before .before .before .before .before .before .before .before .before .before .before .before .before .args .ptr .now)) t1,
               (
-                l .ensures .1 .1 .1 .1 .1 ∙ ap (λ (x : List ℕ). over (take (length (c .before .before .before .before .before .before .before .before .before .before .before .before .before .before .before .before .before .before .before .before .before .before .before .before .before .before .before .before .before .before .before .before .before .before .before .before .before .before .before .args .cols .now)) (listOf most32 (valueOf colsKey (fromLine 2 x)))) (c .before .before .before .before .before .before .before .before .before .before .before .before .before .before .before .before .before .before .before .before .before .before .before .before .before .before .before .before .before .before .before .before .before .before .before .before .before .before .before .args .cols .now)) t1,
-                m .ensures .1 .1 .1 .1 ∙ ap (λ (x : List ℕ). over (take (length (c .before .before .before .before .before .before .before .before .before .before .before .before .before .before .before .before .before .before .before .before .before .before .before .before .before .before .before .before .before .before .before .before .before .before .before .before .before .before .before .args .seeds .now)) (listOf most64 (valueOf seedsKey x))) (c .before .before .before .before .before .before .before .before .before .before .before .before .before .before .before .before .before .before .before .before .before .before .before .before .before .before .before .before .before .before .before .before .before .before .before .before .before .before .before .args .seeds .now)) t4,
+                l .ensures .1 .1 .1 .1 .1 ∙ ap (λ (x : List ℕ). over (take (length (c .before .before .before .before .before .before .before .before .before .before .before .before .before .before .before .before .before .before .before .before .before .before .before .before .before .before .before .before .before .before .before .before .before .before .before .before .before .args .cols .now)) (listOf most32 (valueOf colsKey (fromLine 2 x)))) (c .before .before .before .before .before .before .before .before .before .before .before .before .before .before .before .before .before .before .before .before .before .before .before .before .before .before .before .before .before .before .before .before .before .before .before .before .before .args .cols .now)) t1,
+                m .ensures .1 .1 .1 .1 ∙ ap (λ (x : List ℕ). over (take (length (c .before .before .before .before .before .before .before .before .before .before .before .before .before .before .before .before .before .before .before .before .before .before .before .before .before .before .before .before .before .before .before .before .before .before .before .before .before .args .seeds .now)) (listOf most64 (valueOf seedsKey x))) (c .before .before .before .before .before .before .before .before .before .before .before .before .before .before .before .before .before .before .before .before .before .before .before .before .before .before .before .before .before .before .before .before .before .before .before .before .before .args .seeds .now)) t4,
               ),
             ),
           ),
@@ -222,6 +222,7 @@ read-job-spec =
     sub-read-lists
     part-read-lists-start
     part-read-lists-end
+    slice-aggregate-read-lists
     read-lists-requires
     add-b
     sub-list-line
@@ -246,5 +247,4 @@ read-job-spec =
     same-length-2
     same-length-3
     same-length-4
-    same-length-5
     returns)
