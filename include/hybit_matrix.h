@@ -49,7 +49,7 @@ typedef struct hybit_answer {
     uint64_t value;
 } hybit_answer;
 
-/* An answer of two numbers: start and end of a range, or block and component. The rest is as in `Answer`. */
+/* An answer of two numbers, named at each call. The rest is as in `Answer`. */
 typedef struct hybit_pair_answer {
     uint32_t number;
     bool present;
@@ -59,22 +59,31 @@ typedef struct hybit_pair_answer {
     uint64_t second;
 } hybit_pair_answer;
 
+/* The width of a word, 64. */
 size_t hybit_word_bits(void);
 
+/* The word's number in its row. */
 uint32_t hybit_word_word_index(uint32_t word_index, uint64_t mask);
 
+/* The column of the word's bit 0: 64 times its number. */
 size_t hybit_word_base_col(uint32_t word_index, uint64_t mask);
 
+/* The word's bits. */
 uint64_t hybit_word_mask(uint32_t word_index, uint64_t mask);
 
+/* How many bits are set. */
 size_t hybit_word_popcount(uint32_t word_index, uint64_t mask);
 
+/* Whether bit `offset` is set; past 63: no. */
 bool hybit_word_contains_offset(uint32_t word_index, uint64_t mask, size_t offset);
 
+/* value: how many set bits stand below `offset`. Refuses 13 past 64. */
 hybit_answer hybit_word_rank(uint32_t word_index, uint64_t mask, size_t offset);
 
+/* value: the set bit number `ordinal`, counted from 0; or none. */
 hybit_answer hybit_word_select(uint32_t word_index, uint64_t mask, size_t ordinal);
 
+/* Checks a matrix: 1 to 8. */
 hybit_answer hybit_csr32_validate(
     size_t nrows,
     size_t ncols,
@@ -85,10 +94,13 @@ hybit_answer hybit_csr32_validate(
     const double *values,
     size_t values_count);
 
+/* Checks a mask: 1, 11, 12. A mask of `len` nodes has exactly `len` / 64 words, rounded up. */
 hybit_answer hybit_mask_check(size_t len, const uint64_t *words, size_t words_count);
 
+/* The empty mask in `out`, which needs its words. Refuses 1, 25. */
 hybit_answer hybit_mask_new(size_t len, uint64_t *out, size_t out_count);
 
+/* The mask of the indices in `out`, which needs its words. Refuses 1, 13, 25. */
 hybit_answer hybit_mask_from_indices(
     size_t len,
     const uint64_t *indices,
@@ -96,10 +108,13 @@ hybit_answer hybit_mask_from_indices(
     uint64_t *out,
     size_t out_count);
 
+/* value: 1 if no node is set, else 0. Refuses as the check. */
 hybit_answer hybit_mask_is_empty(size_t len, const uint64_t *words, size_t words_count);
 
+/* value: how many nodes are set. Refuses as the check. */
 hybit_answer hybit_mask_count_ones(size_t len, const uint64_t *words, size_t words_count);
 
+/* Sets or clears one node. Refuses as the check, then 13. */
 hybit_answer hybit_mask_set(
     size_t len,
     uint64_t *words,
@@ -107,12 +122,14 @@ hybit_answer hybit_mask_set(
     uint64_t index,
     bool value);
 
+/* value: 1 if the node is set, else 0; past the length 0. Refuses as the check. */
 hybit_answer hybit_mask_contains(
     size_t len,
     const uint64_t *words,
     size_t words_count,
     uint64_t index);
 
+/* Joins the other mask to the first. Refuses as the check, then for the other 11 (its length, its words), 12. */
 hybit_answer hybit_mask_union_assign(
     size_t len,
     uint64_t *words,
@@ -121,6 +138,7 @@ hybit_answer hybit_mask_union_assign(
     const uint64_t *other,
     size_t other_count);
 
+/* Keeps the nodes that both have. Refuses as the union. */
 hybit_answer hybit_mask_intersect_assign(
     size_t len,
     uint64_t *words,
@@ -129,6 +147,7 @@ hybit_answer hybit_mask_intersect_assign(
     const uint64_t *other,
     size_t other_count);
 
+/* Takes the other mask's nodes away. Refuses as the union. */
 hybit_answer hybit_mask_and_not_assign(
     size_t len,
     uint64_t *words,
@@ -137,6 +156,7 @@ hybit_answer hybit_mask_and_not_assign(
     const uint64_t *other,
     size_t other_count);
 
+/* value: 1 if both have a node, else 0. Refuses as the union. */
 hybit_answer hybit_mask_intersects(
     size_t len,
     const uint64_t *words,
@@ -145,6 +165,7 @@ hybit_answer hybit_mask_intersects(
     const uint64_t *other,
     size_t other_count);
 
+/* The nodes in rising order in `out`, which needs one place for each; value: how many. Refuses as the check, then 25. */
 hybit_answer hybit_mask_indices(
     size_t len,
     const uint64_t *words,
@@ -152,6 +173,7 @@ hybit_answer hybit_mask_indices(
     uint64_t *out,
     size_t out_count);
 
+/* Sets the bits in one word; past the last word nothing changes, bits past the length are dropped. Refuses as the check. */
 hybit_answer hybit_mask_or_word(
     size_t len,
     uint64_t *words,
@@ -159,10 +181,10 @@ hybit_answer hybit_mask_or_word(
     uint64_t word_index,
     uint64_t bits);
 
-/* value: the kind's number. */
+/* value: the kind's number, which is the code. Refuses 17. */
 hybit_answer hybit_kind_of(uint32_t code);
 
-/* value: the total. */
+/* Running totals of the components in `out`, which needs blocks + 1; value: the total. Refuses 14, 11, by block 17, 15, 16, 1, then 25. */
 hybit_answer hybit_layout_new(
     const uint8_t *entity_kinds,
     size_t entity_kinds_count,
@@ -175,6 +197,7 @@ hybit_answer hybit_layout_new(
     uint64_t *out,
     size_t out_count);
 
+/* Checks a layout: as new, then 26. */
 hybit_answer hybit_layout_check(
     const uint8_t *entity_kinds,
     size_t entity_kinds_count,
@@ -187,7 +210,7 @@ hybit_answer hybit_layout_check(
     const uint64_t *offsets,
     size_t offsets_count);
 
-/* value: the total. */
+/* value: the total. Refuses as the check. */
 hybit_answer hybit_layout_total_dofs(
     const uint8_t *entity_kinds,
     size_t entity_kinds_count,
@@ -200,7 +223,7 @@ hybit_answer hybit_layout_total_dofs(
     const uint64_t *offsets,
     size_t offsets_count);
 
-/* first and second: start and end. */
+/* first and second: start and end of a block; past the last block none. Refuses as the check. */
 hybit_pair_answer hybit_layout_block_range(
     const uint8_t *entity_kinds,
     size_t entity_kinds_count,
@@ -214,7 +237,7 @@ hybit_pair_answer hybit_layout_block_range(
     size_t offsets_count,
     uint64_t index);
 
-/* first and second: block and component. */
+/* first and second: block and component of a node; past the last node none. Refuses as the check. */
 hybit_pair_answer hybit_layout_locate(
     const uint8_t *entity_kinds,
     size_t entity_kinds_count,
@@ -228,6 +251,7 @@ hybit_pair_answer hybit_layout_locate(
     size_t offsets_count,
     uint64_t dof);
 
+/* Whether the total is both sides. Refuses as the check, then 18. */
 hybit_answer hybit_layout_validate_square_matrix_size(
     const uint8_t *entity_kinds,
     size_t entity_kinds_count,
@@ -242,7 +266,7 @@ hybit_answer hybit_layout_validate_square_matrix_size(
     size_t nrows,
     size_t ncols);
 
-/* value: the mask's length. */
+/* The mask of a field's nodes in `out`, which needs the words of a mask of the total; value: the total. Refuses as the check, then 25. */
 hybit_answer hybit_layout_field_mask(
     const uint8_t *entity_kinds,
     size_t entity_kinds_count,
@@ -274,7 +298,7 @@ typedef struct hybit_topology_stats_answer {
     double metadata_bytes_per_nnz;
 } hybit_topology_stats_answer;
 
-/* value: 0. */
+/* Checks one side: 1, 9. */
 hybit_answer hybit_topology_validate(
     size_t nrows,
     size_t ncols,
@@ -286,7 +310,7 @@ hybit_answer hybit_topology_validate(
     size_t masks_count,
     size_t structural_nnz);
 
-/* All of `AbtmTopologyStats`. */
+/* Counts, bytes and ratios of one side. Refuses 1, 9. */
 hybit_topology_stats_answer hybit_topology_stats(
     size_t nrows,
     size_t ncols,
@@ -298,7 +322,7 @@ hybit_topology_stats_answer hybit_topology_stats(
     size_t masks_count,
     size_t structural_nnz);
 
-/* first and second: words and pairs. */
+/* One side of a matrix's pairs: the lists need nrows + 1 pointers and as many words as entries, zero past its own; first and second: words and pairs. Refuses 1 to 8, 25. */
 hybit_pair_answer hybit_topology_from_csr32(
     size_t nrows,
     size_t ncols,
@@ -315,7 +339,7 @@ hybit_pair_answer hybit_topology_from_csr32(
     uint64_t *masks,
     size_t masks_count);
 
-/* first and second: words and pairs. */
+/* The pairs that both sides have: the lists need nrows + 1 pointers and as many words as both together, zero past its own; first and second: words and pairs. Refuses 1, 9 for each, 22, 25. */
 hybit_pair_answer hybit_topology_intersection(
     size_t nrows,
     size_t ncols,
@@ -342,7 +366,7 @@ hybit_pair_answer hybit_topology_intersection(
     uint64_t *masks,
     size_t masks_count);
 
-/* first and second: words and pairs. */
+/* The pairs of either side; all else as the intersection. */
 hybit_pair_answer hybit_topology_union(
     size_t nrows,
     size_t ncols,
@@ -369,7 +393,7 @@ hybit_pair_answer hybit_topology_union(
     uint64_t *masks,
     size_t masks_count);
 
-/* first and second: words and pairs. */
+/* The pairs of the first side that the second lacks; all else as the intersection. */
 hybit_pair_answer hybit_topology_and_not(
     size_t nrows,
     size_t ncols,
@@ -396,7 +420,7 @@ hybit_pair_answer hybit_topology_and_not(
     uint64_t *masks,
     size_t masks_count);
 
-/* first and second: words and pairs. */
+/* The pairs that one side alone has; all else as the intersection. */
 hybit_pair_answer hybit_topology_xor(
     size_t nrows,
     size_t ncols,
@@ -449,7 +473,7 @@ typedef struct hybit_build_answer {
     uint64_t pairs;
 } hybit_build_answer;
 
-/* `starts` and `order` are scratch, zero afterwards. */
+/* Both sides of a matrix's pairs: each needs its rows + 1 pointers and as many words as entries, zero past its own. `starts` (ncols + 1) and `order` (one for each entry) are scratch, zero afterwards. Refuses 1 to 8, 25. */
 hybit_build_answer hybit_dual_topology_from_csr32(
     size_t nrows,
     size_t ncols,
@@ -476,7 +500,7 @@ hybit_build_answer hybit_dual_topology_from_csr32(
     uint32_t *order,
     size_t order_count);
 
-/* value: 0. */
+/* Checks a topology: 1 (both sides), 9 (each side, and that the columns are the transpose of the rows). */
 hybit_answer hybit_dual_topology_validate(
     size_t nrows,
     size_t ncols,
@@ -497,7 +521,7 @@ hybit_answer hybit_dual_topology_validate(
     size_t column_masks_count,
     size_t column_structural_nnz);
 
-/* All of `AbtmDualTopologyStats`. */
+/* Counts and bytes of a topology. Refuses 1, 9. */
 hybit_dual_stats_answer hybit_dual_topology_stats(
     size_t nrows,
     size_t ncols,
@@ -518,7 +542,7 @@ hybit_dual_stats_answer hybit_dual_topology_stats(
     size_t column_masks_count,
     size_t column_structural_nnz);
 
-/* value: how many stored words. */
+/* value: how many words a row stores. Refuses 1, 9, then 13 for the number. */
 hybit_answer hybit_row_words(
     size_t nrows,
     size_t ncols,
@@ -541,7 +565,7 @@ hybit_answer hybit_row_words(
     bool columns,
     uint64_t number);
 
-/* value: how many columns. */
+/* value: how many columns a row has. Refuses as row_words. */
 hybit_answer hybit_row_popcount(
     size_t nrows,
     size_t ncols,
@@ -564,7 +588,7 @@ hybit_answer hybit_row_popcount(
     bool columns,
     uint64_t number);
 
-/* value: 1 for yes, 0 for no. */
+/* value: 1 if the row has the column, else 0; past the last column 0. Refuses as row_words. */
 hybit_answer hybit_row_contains(
     size_t nrows,
     size_t ncols,
@@ -588,7 +612,7 @@ hybit_answer hybit_row_contains(
     uint64_t number,
     uint64_t col);
 
-/* value: how many columns below `col`. */
+/* value: how many of the row's columns stand below `col`. Refuses as row_words, then 13 for a column past the end. */
 hybit_answer hybit_row_rank(
     size_t nrows,
     size_t ncols,
@@ -612,7 +636,7 @@ hybit_answer hybit_row_rank(
     uint64_t number,
     uint64_t col);
 
-/* value: the column. */
+/* value: the row's column number `ordinal`, counted from 0; or none. Refuses as row_words. */
 hybit_answer hybit_row_select(
     size_t nrows,
     size_t ncols,
@@ -636,7 +660,7 @@ hybit_answer hybit_row_select(
     uint64_t number,
     uint64_t ordinal);
 
-/* first and second: the number and the mask of the word. */
+/* first and second: number and bits of the row's word k; or none. Refuses as row_words. */
 hybit_pair_answer hybit_row_word(
     size_t nrows,
     size_t ncols,
@@ -714,6 +738,7 @@ typedef struct hybit_multiplicity_answer {
     double overlap_fraction_on_covered;
 } hybit_multiplicity_answer;
 
+/* Region and frontier after `hops` hops, each node a block. Three masks of the side: region, frontier, and scratch, zero afterwards. Refuses as the topology, 10, 11, 12 for the seeds, 25. */
 hybit_growth_answer hybit_grow_undirected_region(
     size_t nrows,
     size_t ncols,
@@ -744,6 +769,7 @@ hybit_growth_answer hybit_grow_undirected_region(
     uint64_t *scratch,
     size_t scratch_count);
 
+/* The same by whole blocks of the layout. Refuses as the topology, the layout, 18, 11, 12 for the seeds, 25. */
 hybit_field_growth_answer hybit_grow_field_aware_region(
     size_t nrows,
     size_t ncols,
@@ -784,7 +810,7 @@ hybit_field_growth_answer hybit_grow_field_aware_region(
     uint64_t *scratch,
     size_t scratch_count);
 
-/* value: the mask's length. */
+/* The whole blocks of the nodes in `out`, a mask of the total; value: the total. Refuses as the layout, 11, 12 for the mask, 25. */
 hybit_answer hybit_close_to_field_blocks(
     const uint8_t *entity_kinds,
     size_t entity_kinds_count,
@@ -802,7 +828,7 @@ hybit_answer hybit_close_to_field_blocks(
     uint64_t *out,
     size_t out_count);
 
-/* value: the number of blocks. */
+/* The owner of each block in `out`, which needs one place for each; value: how many. Refuses as the layout, 11, 19, by block 20, 21, then 25. */
 hybit_answer hybit_field_block_owners(
     const uint8_t *entity_kinds,
     size_t entity_kinds_count,
@@ -820,6 +846,7 @@ hybit_answer hybit_field_block_owners(
     uint32_t *out,
     size_t out_count);
 
+/* How many regions hold each node, in `counts`, which needs one place for each node. `words`: the masks of the regions one after the other. Refuses 1, 11, 12, 25. */
 hybit_multiplicity_answer hybit_region_multiplicity(
     size_t node_count,
     size_t region_count,
@@ -828,7 +855,7 @@ hybit_multiplicity_answer hybit_region_multiplicity(
     uint32_t *counts,
     size_t counts_count);
 
-/* value: the weight. */
+/* value: the region's weight at a node, 65,536 divided by the node's multiplicity, rounded down; 0 where it does not hold it. Refuses 1, 11, 12, 13. */
 hybit_answer hybit_weight(
     size_t node_count,
     size_t region_count,
@@ -869,6 +896,7 @@ typedef struct hybit_plan_answer {
     uint64_t plan_bytes;
 } hybit_plan_answer;
 
+/* The local system's pattern: members, members + 1 row pointers, and one column for each pair inside. Refuses as the topology, 10, 11, 12 for the region, 25. */
 hybit_pattern_answer hybit_extract_local_submatrix_pattern(
     size_t nrows,
     size_t ncols,
@@ -898,6 +926,7 @@ hybit_pattern_answer hybit_extract_local_submatrix_pattern(
     uint32_t *col_idx,
     size_t col_idx_count);
 
+/* Pattern and plan: the pattern's lists, pairs + 1 source pointers, and one source for each entry inside. Refuses as the matrix, the topology, 22, 10, 11, 12 for the region, by local row 23, 24, then 25. */
 hybit_plan_answer hybit_prepare_local_numeric_plan(
     size_t nrows,
     size_t ncols,
@@ -939,7 +968,7 @@ hybit_plan_answer hybit_prepare_local_numeric_plan(
     uint32_t *source_indices,
     size_t source_indices_count);
 
-/* value: the number of pairs. */
+/* One value for each pair of a plan in `out`; value: how many. `source_value_len`: the number of values that the plan was made for. Refuses 1, 26, 11, 8, 25. */
 hybit_answer hybit_gather_values(
     const uint32_t *source_ptr,
     size_t source_ptr_count,
@@ -991,6 +1020,7 @@ typedef struct hybit_prepared_answer {
     uint32_t plan_bytes;
 } hybit_prepared_answer;
 
+/* Topology, region, pattern and plan of a matrix, a layout and seeds in one call. Each side's pointers and words, `starts` and `order` as in building; three masks; side members, side + 1 row pointers, as many columns and sources as entries, entries + 1 source pointers, zero past the answer. Refuses as the matrix, the layout, 18, 11, 12 for the seeds, 25. */
 hybit_prepared_answer hybit_prepare_region(
     size_t nrows,
     size_t ncols,
@@ -1047,7 +1077,7 @@ hybit_prepared_answer hybit_prepare_region(
     uint32_t *source_indices,
     size_t source_indices_count);
 
-/* value: the number of blocks. */
+/* As field_block_owners, on a matrix and its layout. Refuses as the matrix, the layout, 18, then as field_block_owners. */
 hybit_answer hybit_validate_block_owners(
     size_t nrows,
     size_t ncols,
@@ -1073,7 +1103,7 @@ hybit_answer hybit_validate_block_owners(
     uint32_t *out,
     size_t out_count);
 
-/* value: how many bytes the answer's text has. */
+/* A job's text in, the answer's text out, a refused job's too; value: its length in bytes. Refuses 25 alone. */
 hybit_answer hybit_peak_job(
     const uint8_t *input,
     size_t input_count,

@@ -13,7 +13,7 @@ pub struct Answer {
     pub value: u64,
 }
 
-// An answer of two numbers: start and end of a range, or block and component. The rest is as in `Answer`.
+// An answer of two numbers, named at each call. The rest is as in `Answer`.
 #[repr(C)]
 #[derive(Clone, Copy)]
 pub struct PairAnswer {
@@ -213,38 +213,47 @@ pub struct PreparedAnswer {
 }
 
 unsafe extern "C" {
+    // The width of a word, 64.
     pub fn hybit_word_bits() -> usize;
+    // The word's number in its row.
     pub fn hybit_word_word_index(
         word_index: u32,
         mask: u64,
     ) -> u32;
+    // The column of the word's bit 0: 64 times its number.
     pub fn hybit_word_base_col(
         word_index: u32,
         mask: u64,
     ) -> usize;
+    // The word's bits.
     pub fn hybit_word_mask(
         word_index: u32,
         mask: u64,
     ) -> u64;
+    // How many bits are set.
     pub fn hybit_word_popcount(
         word_index: u32,
         mask: u64,
     ) -> usize;
+    // Whether bit `offset` is set; past 63: no.
     pub fn hybit_word_contains_offset(
         word_index: u32,
         mask: u64,
         offset: usize,
     ) -> bool;
+    // value: how many set bits stand below `offset`. Refuses 13 past 64.
     pub fn hybit_word_rank(
         word_index: u32,
         mask: u64,
         offset: usize,
     ) -> Answer;
+    // value: the set bit number `ordinal`, counted from 0; or none.
     pub fn hybit_word_select(
         word_index: u32,
         mask: u64,
         ordinal: usize,
     ) -> Answer;
+    // Checks a matrix: 1 to 8.
     pub fn hybit_csr32_validate(
         nrows: usize,
         ncols: usize,
@@ -255,16 +264,19 @@ unsafe extern "C" {
         values: *const f64,
         values_count: usize,
     ) -> Answer;
+    // Checks a mask: 1, 11, 12. A mask of `len` nodes has exactly `len` / 64 words, rounded up.
     pub fn hybit_mask_check(
         len: usize,
         words: *const u64,
         words_count: usize,
     ) -> Answer;
+    // The empty mask in `out`, which needs its words. Refuses 1, 25.
     pub fn hybit_mask_new(
         len: usize,
         out: *mut u64,
         out_count: usize,
     ) -> Answer;
+    // The mask of the indices in `out`, which needs its words. Refuses 1, 13, 25.
     pub fn hybit_mask_from_indices(
         len: usize,
         indices: *const u64,
@@ -272,16 +284,19 @@ unsafe extern "C" {
         out: *mut u64,
         out_count: usize,
     ) -> Answer;
+    // value: 1 if no node is set, else 0. Refuses as the check.
     pub fn hybit_mask_is_empty(
         len: usize,
         words: *const u64,
         words_count: usize,
     ) -> Answer;
+    // value: how many nodes are set. Refuses as the check.
     pub fn hybit_mask_count_ones(
         len: usize,
         words: *const u64,
         words_count: usize,
     ) -> Answer;
+    // Sets or clears one node. Refuses as the check, then 13.
     pub fn hybit_mask_set(
         len: usize,
         words: *mut u64,
@@ -289,12 +304,14 @@ unsafe extern "C" {
         index: u64,
         value: bool,
     ) -> Answer;
+    // value: 1 if the node is set, else 0; past the length 0. Refuses as the check.
     pub fn hybit_mask_contains(
         len: usize,
         words: *const u64,
         words_count: usize,
         index: u64,
     ) -> Answer;
+    // Joins the other mask to the first. Refuses as the check, then for the other 11 (its length, its words), 12.
     pub fn hybit_mask_union_assign(
         len: usize,
         words: *mut u64,
@@ -303,6 +320,7 @@ unsafe extern "C" {
         other: *const u64,
         other_count: usize,
     ) -> Answer;
+    // Keeps the nodes that both have. Refuses as the union.
     pub fn hybit_mask_intersect_assign(
         len: usize,
         words: *mut u64,
@@ -311,6 +329,7 @@ unsafe extern "C" {
         other: *const u64,
         other_count: usize,
     ) -> Answer;
+    // Takes the other mask's nodes away. Refuses as the union.
     pub fn hybit_mask_and_not_assign(
         len: usize,
         words: *mut u64,
@@ -319,6 +338,7 @@ unsafe extern "C" {
         other: *const u64,
         other_count: usize,
     ) -> Answer;
+    // value: 1 if both have a node, else 0. Refuses as the union.
     pub fn hybit_mask_intersects(
         len: usize,
         words: *const u64,
@@ -327,6 +347,7 @@ unsafe extern "C" {
         other: *const u64,
         other_count: usize,
     ) -> Answer;
+    // The nodes in rising order in `out`, which needs one place for each; value: how many. Refuses as the check, then 25.
     pub fn hybit_mask_indices(
         len: usize,
         words: *const u64,
@@ -334,6 +355,7 @@ unsafe extern "C" {
         out: *mut u64,
         out_count: usize,
     ) -> Answer;
+    // Sets the bits in one word; past the last word nothing changes, bits past the length are dropped. Refuses as the check.
     pub fn hybit_mask_or_word(
         len: usize,
         words: *mut u64,
@@ -341,11 +363,11 @@ unsafe extern "C" {
         word_index: u64,
         bits: u64,
     ) -> Answer;
-    // value: the kind's number.
+    // value: the kind's number, which is the code. Refuses 17.
     pub fn hybit_kind_of(
         code: u32,
     ) -> Answer;
-    // value: the total.
+    // Running totals of the components in `out`, which needs blocks + 1; value: the total. Refuses 14, 11, by block 17, 15, 16, 1, then 25.
     pub fn hybit_layout_new(
         entity_kinds: *const u8,
         entity_kinds_count: usize,
@@ -358,6 +380,7 @@ unsafe extern "C" {
         out: *mut u64,
         out_count: usize,
     ) -> Answer;
+    // Checks a layout: as new, then 26.
     pub fn hybit_layout_check(
         entity_kinds: *const u8,
         entity_kinds_count: usize,
@@ -370,7 +393,7 @@ unsafe extern "C" {
         offsets: *const u64,
         offsets_count: usize,
     ) -> Answer;
-    // value: the total.
+    // value: the total. Refuses as the check.
     pub fn hybit_layout_total_dofs(
         entity_kinds: *const u8,
         entity_kinds_count: usize,
@@ -383,7 +406,7 @@ unsafe extern "C" {
         offsets: *const u64,
         offsets_count: usize,
     ) -> Answer;
-    // first and second: start and end.
+    // first and second: start and end of a block; past the last block none. Refuses as the check.
     pub fn hybit_layout_block_range(
         entity_kinds: *const u8,
         entity_kinds_count: usize,
@@ -397,7 +420,7 @@ unsafe extern "C" {
         offsets_count: usize,
         index: u64,
     ) -> PairAnswer;
-    // first and second: block and component.
+    // first and second: block and component of a node; past the last node none. Refuses as the check.
     pub fn hybit_layout_locate(
         entity_kinds: *const u8,
         entity_kinds_count: usize,
@@ -411,6 +434,7 @@ unsafe extern "C" {
         offsets_count: usize,
         dof: u64,
     ) -> PairAnswer;
+    // Whether the total is both sides. Refuses as the check, then 18.
     pub fn hybit_layout_validate_square_matrix_size(
         entity_kinds: *const u8,
         entity_kinds_count: usize,
@@ -425,7 +449,7 @@ unsafe extern "C" {
         nrows: usize,
         ncols: usize,
     ) -> Answer;
-    // value: the mask's length.
+    // The mask of a field's nodes in `out`, which needs the words of a mask of the total; value: the total. Refuses as the check, then 25.
     pub fn hybit_layout_field_mask(
         entity_kinds: *const u8,
         entity_kinds_count: usize,
@@ -441,7 +465,7 @@ unsafe extern "C" {
         out: *mut u64,
         out_count: usize,
     ) -> Answer;
-    // value: 0.
+    // Checks one side: 1, 9.
     pub fn hybit_topology_validate(
         nrows: usize,
         ncols: usize,
@@ -453,7 +477,7 @@ unsafe extern "C" {
         masks_count: usize,
         structural_nnz: usize,
     ) -> Answer;
-    // All of `AbtmTopologyStats`.
+    // Counts, bytes and ratios of one side. Refuses 1, 9.
     pub fn hybit_topology_stats(
         nrows: usize,
         ncols: usize,
@@ -465,7 +489,8 @@ unsafe extern "C" {
         masks_count: usize,
         structural_nnz: usize,
     ) -> TopologyStatsAnswer;
-    // first and second: words and pairs.
+    // One side of a matrix's pairs: the lists need nrows + 1 pointers and as many words as entries, zero past its own; first and second: words and
+    // pairs. Refuses 1 to 8, 25.
     pub fn hybit_topology_from_csr32(
         nrows: usize,
         ncols: usize,
@@ -482,7 +507,8 @@ unsafe extern "C" {
         masks: *mut u64,
         masks_count: usize,
     ) -> PairAnswer;
-    // first and second: words and pairs.
+    // The pairs that both sides have: the lists need nrows + 1 pointers and as many words as both together, zero past its own; first and second:
+    // words and pairs. Refuses 1, 9 for each, 22, 25.
     pub fn hybit_topology_intersection(
         nrows: usize,
         ncols: usize,
@@ -509,7 +535,7 @@ unsafe extern "C" {
         masks: *mut u64,
         masks_count: usize,
     ) -> PairAnswer;
-    // first and second: words and pairs.
+    // The pairs of either side; all else as the intersection.
     pub fn hybit_topology_union(
         nrows: usize,
         ncols: usize,
@@ -536,7 +562,7 @@ unsafe extern "C" {
         masks: *mut u64,
         masks_count: usize,
     ) -> PairAnswer;
-    // first and second: words and pairs.
+    // The pairs of the first side that the second lacks; all else as the intersection.
     pub fn hybit_topology_and_not(
         nrows: usize,
         ncols: usize,
@@ -563,7 +589,7 @@ unsafe extern "C" {
         masks: *mut u64,
         masks_count: usize,
     ) -> PairAnswer;
-    // first and second: words and pairs.
+    // The pairs that one side alone has; all else as the intersection.
     pub fn hybit_topology_xor(
         nrows: usize,
         ncols: usize,
@@ -590,7 +616,8 @@ unsafe extern "C" {
         masks: *mut u64,
         masks_count: usize,
     ) -> PairAnswer;
-    // `starts` and `order` are scratch, zero afterwards.
+    // Both sides of a matrix's pairs: each needs its rows + 1 pointers and as many words as entries, zero past its own. `starts` (ncols + 1) and
+    // `order` (one for each entry) are scratch, zero afterwards. Refuses 1 to 8, 25.
     pub fn hybit_dual_topology_from_csr32(
         nrows: usize,
         ncols: usize,
@@ -617,7 +644,7 @@ unsafe extern "C" {
         order: *mut u32,
         order_count: usize,
     ) -> BuildAnswer;
-    // value: 0.
+    // Checks a topology: 1 (both sides), 9 (each side, and that the columns are the transpose of the rows).
     pub fn hybit_dual_topology_validate(
         nrows: usize,
         ncols: usize,
@@ -638,7 +665,7 @@ unsafe extern "C" {
         column_masks_count: usize,
         column_structural_nnz: usize,
     ) -> Answer;
-    // All of `AbtmDualTopologyStats`.
+    // Counts and bytes of a topology. Refuses 1, 9.
     pub fn hybit_dual_topology_stats(
         nrows: usize,
         ncols: usize,
@@ -659,7 +686,7 @@ unsafe extern "C" {
         column_masks_count: usize,
         column_structural_nnz: usize,
     ) -> DualStatsAnswer;
-    // value: how many stored words.
+    // value: how many words a row stores. Refuses 1, 9, then 13 for the number.
     pub fn hybit_row_words(
         nrows: usize,
         ncols: usize,
@@ -682,7 +709,7 @@ unsafe extern "C" {
         columns: bool,
         number: u64,
     ) -> Answer;
-    // value: how many columns.
+    // value: how many columns a row has. Refuses as row_words.
     pub fn hybit_row_popcount(
         nrows: usize,
         ncols: usize,
@@ -705,7 +732,7 @@ unsafe extern "C" {
         columns: bool,
         number: u64,
     ) -> Answer;
-    // value: 1 for yes, 0 for no.
+    // value: 1 if the row has the column, else 0; past the last column 0. Refuses as row_words.
     pub fn hybit_row_contains(
         nrows: usize,
         ncols: usize,
@@ -729,7 +756,7 @@ unsafe extern "C" {
         number: u64,
         col: u64,
     ) -> Answer;
-    // value: how many columns below `col`.
+    // value: how many of the row's columns stand below `col`. Refuses as row_words, then 13 for a column past the end.
     pub fn hybit_row_rank(
         nrows: usize,
         ncols: usize,
@@ -753,7 +780,7 @@ unsafe extern "C" {
         number: u64,
         col: u64,
     ) -> Answer;
-    // value: the column.
+    // value: the row's column number `ordinal`, counted from 0; or none. Refuses as row_words.
     pub fn hybit_row_select(
         nrows: usize,
         ncols: usize,
@@ -777,7 +804,7 @@ unsafe extern "C" {
         number: u64,
         ordinal: u64,
     ) -> Answer;
-    // first and second: the number and the mask of the word.
+    // first and second: number and bits of the row's word k; or none. Refuses as row_words.
     pub fn hybit_row_word(
         nrows: usize,
         ncols: usize,
@@ -801,6 +828,8 @@ unsafe extern "C" {
         number: u64,
         k: u64,
     ) -> PairAnswer;
+    // Region and frontier after `hops` hops, each node a block. Three masks of the side: region, frontier, and scratch, zero afterwards. Refuses as
+    // the topology, 10, 11, 12 for the seeds, 25.
     pub fn hybit_grow_undirected_region(
         nrows: usize,
         ncols: usize,
@@ -831,6 +860,7 @@ unsafe extern "C" {
         scratch: *mut u64,
         scratch_count: usize,
     ) -> GrowthAnswer;
+    // The same by whole blocks of the layout. Refuses as the topology, the layout, 18, 11, 12 for the seeds, 25.
     pub fn hybit_grow_field_aware_region(
         nrows: usize,
         ncols: usize,
@@ -871,7 +901,7 @@ unsafe extern "C" {
         scratch: *mut u64,
         scratch_count: usize,
     ) -> FieldGrowthAnswer;
-    // value: the mask's length.
+    // The whole blocks of the nodes in `out`, a mask of the total; value: the total. Refuses as the layout, 11, 12 for the mask, 25.
     pub fn hybit_close_to_field_blocks(
         entity_kinds: *const u8,
         entity_kinds_count: usize,
@@ -889,7 +919,7 @@ unsafe extern "C" {
         out: *mut u64,
         out_count: usize,
     ) -> Answer;
-    // value: the number of blocks.
+    // The owner of each block in `out`, which needs one place for each; value: how many. Refuses as the layout, 11, 19, by block 20, 21, then 25.
     pub fn hybit_field_block_owners(
         entity_kinds: *const u8,
         entity_kinds_count: usize,
@@ -907,6 +937,8 @@ unsafe extern "C" {
         out: *mut u32,
         out_count: usize,
     ) -> Answer;
+    // How many regions hold each node, in `counts`, which needs one place for each node. `words`: the masks of the regions one after the other.
+    // Refuses 1, 11, 12, 25.
     pub fn hybit_region_multiplicity(
         node_count: usize,
         region_count: usize,
@@ -915,7 +947,7 @@ unsafe extern "C" {
         counts: *mut u32,
         counts_count: usize,
     ) -> MultiplicityAnswer;
-    // value: the weight.
+    // value: the region's weight at a node, 65,536 divided by the node's multiplicity, rounded down; 0 where it does not hold it. Refuses 1, 11, 12, 13.
     pub fn hybit_weight(
         node_count: usize,
         region_count: usize,
@@ -924,6 +956,8 @@ unsafe extern "C" {
         region: u64,
         node: u64,
     ) -> Answer;
+    // The local system's pattern: members, members + 1 row pointers, and one column for each pair inside. Refuses as the topology, 10, 11, 12 for
+    // the region, 25.
     pub fn hybit_extract_local_submatrix_pattern(
         nrows: usize,
         ncols: usize,
@@ -953,6 +987,8 @@ unsafe extern "C" {
         col_idx: *mut u32,
         col_idx_count: usize,
     ) -> PatternAnswer;
+    // Pattern and plan: the pattern's lists, pairs + 1 source pointers, and one source for each entry inside. Refuses as the matrix, the topology, 22,
+    // 10, 11, 12 for the region, by local row 23, 24, then 25.
     pub fn hybit_prepare_local_numeric_plan(
         nrows: usize,
         ncols: usize,
@@ -994,7 +1030,8 @@ unsafe extern "C" {
         source_indices: *mut u32,
         source_indices_count: usize,
     ) -> PlanAnswer;
-    // value: the number of pairs.
+    // One value for each pair of a plan in `out`; value: how many. `source_value_len`: the number of values that the plan was made for. Refuses 1,
+    // 26, 11, 8, 25.
     pub fn hybit_gather_values(
         source_ptr: *const u32,
         source_ptr_count: usize,
@@ -1006,6 +1043,9 @@ unsafe extern "C" {
         out: *mut f64,
         out_count: usize,
     ) -> Answer;
+    // Topology, region, pattern and plan of a matrix, a layout and seeds in one call. Each side's pointers and words, `starts` and `order` as in
+    // building; three masks; side members, side + 1 row pointers, as many columns and sources as entries, entries + 1 source pointers, zero past
+    // the answer. Refuses as the matrix, the layout, 18, 11, 12 for the seeds, 25.
     pub fn hybit_prepare_region(
         nrows: usize,
         ncols: usize,
@@ -1062,7 +1102,7 @@ unsafe extern "C" {
         source_indices: *mut u32,
         source_indices_count: usize,
     ) -> PreparedAnswer;
-    // value: the number of blocks.
+    // As field_block_owners, on a matrix and its layout. Refuses as the matrix, the layout, 18, then as field_block_owners.
     pub fn hybit_validate_block_owners(
         nrows: usize,
         ncols: usize,
@@ -1088,7 +1128,7 @@ unsafe extern "C" {
         out: *mut u32,
         out_count: usize,
     ) -> Answer;
-    // value: how many bytes the answer's text has.
+    // A job's text in, the answer's text out, a refused job's too; value: its length in bytes. Refuses 25 alone.
     pub fn hybit_peak_job(
         input: *const u8,
         input_count: usize,

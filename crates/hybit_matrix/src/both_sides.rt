@@ -135,7 +135,8 @@ fn side_named(columns: bool) -> RowOf
     if columns { RowOf::Columns } else { RowOf::Rows }
 }
 
-// `starts` and `order` are scratch, zero afterwards.
+// Both sides of a matrix's pairs: each needs its rows + 1 pointers and as many words as entries, zero past its own. `starts` (ncols + 1) and
+// `order` (one for each entry) are scratch, zero afterwards. Refuses 1 to 8, 25.
 #[no_mangle]
 pub extern "C" fn hybit_dual_topology_from_csr32(
     nrows: usize,
@@ -179,7 +180,7 @@ pub extern "C" fn hybit_dual_topology_from_csr32(
     ))
 }
 
-// value: 0.
+// Checks a topology: 1 (both sides), 9 (each side, and that the columns are the transpose of the rows).
 #[no_mangle]
 pub extern "C" fn hybit_dual_topology_validate(
     nrows: usize,
@@ -213,7 +214,7 @@ pub extern "C" fn hybit_dual_topology_validate(
     ))
 }
 
-// All of `AbtmDualTopologyStats`.
+// Counts and bytes of a topology. Refuses 1, 9.
 #[no_mangle]
 pub extern "C" fn hybit_dual_topology_stats(
     nrows: usize,
@@ -247,7 +248,7 @@ pub extern "C" fn hybit_dual_topology_stats(
     ))
 }
 
-// value: how many stored words.
+// value: how many words a row stores. Refuses 1, 9, then 13 for the number.
 #[no_mangle]
 pub extern "C" fn hybit_row_words(
     nrows: usize,
@@ -285,7 +286,7 @@ pub extern "C" fn hybit_row_words(
     ))
 }
 
-// value: how many columns.
+// value: how many columns a row has. Refuses as row_words.
 #[no_mangle]
 pub extern "C" fn hybit_row_popcount(
     nrows: usize,
@@ -323,7 +324,7 @@ pub extern "C" fn hybit_row_popcount(
     ))
 }
 
-// value: 1 for yes, 0 for no.
+// value: 1 if the row has the column, else 0; past the last column 0. Refuses as row_words.
 #[no_mangle]
 pub extern "C" fn hybit_row_contains(
     nrows: usize,
@@ -363,7 +364,7 @@ pub extern "C" fn hybit_row_contains(
     ))
 }
 
-// value: how many columns below `col`.
+// value: how many of the row's columns stand below `col`. Refuses as row_words, then 13 for a column past the end.
 #[no_mangle]
 pub extern "C" fn hybit_row_rank(
     nrows: usize,
@@ -403,7 +404,7 @@ pub extern "C" fn hybit_row_rank(
     ))
 }
 
-// value: the column.
+// value: the row's column number `ordinal`, counted from 0; or none. Refuses as row_words.
 #[no_mangle]
 pub extern "C" fn hybit_row_select(
     nrows: usize,
@@ -443,7 +444,7 @@ pub extern "C" fn hybit_row_select(
     ))
 }
 
-// first and second: the number and the mask of the word.
+// first and second: number and bits of the row's word k; or none. Refuses as row_words.
 #[no_mangle]
 pub extern "C" fn hybit_row_word(
     nrows: usize,

@@ -78,7 +78,7 @@ fn flat_located(a: Located) -> PairAnswer
     }
 }
 
-// value: the kind's number.
+// value: the kind's number, which is the code. Refuses 17.
 #[no_mangle]
 pub extern "C" fn hybit_kind_of(code: u32) -> Answer
     ensures { λ r. ⌜ r ≡ flatKinded (kindAnswer code) ⌝ }
@@ -86,7 +86,7 @@ pub extern "C" fn hybit_kind_of(code: u32) -> Answer
     flat_kinded(dof_layout::kind_of(code))
 }
 
-// value: the total.
+// Running totals of the components in `out`, which needs blocks + 1; value: the total. Refuses 14, 11, by block 17, 15, 16, 1, then 25.
 #[no_mangle]
 pub extern "C" fn hybit_layout_new(
     entity_kinds: &[u8],
@@ -101,6 +101,7 @@ pub extern "C" fn hybit_layout_new(
     crate::flat_counted(dof_layout::new(entity_kinds, entity_ids, field_ids, components, out))
 }
 
+// Checks a layout: as new, then 26.
 #[no_mangle]
 pub extern "C" fn hybit_layout_check(
     entity_kinds: &[u8],
@@ -114,7 +115,7 @@ pub extern "C" fn hybit_layout_check(
     crate::flat_checked(dof_layout::check(entity_kinds, entity_ids, field_ids, components, offsets))
 }
 
-// value: the total.
+// value: the total. Refuses as the check.
 #[no_mangle]
 pub extern "C" fn hybit_layout_total_dofs(
     entity_kinds: &[u8],
@@ -134,7 +135,7 @@ pub extern "C" fn hybit_layout_total_dofs(
     ))
 }
 
-// first and second: start and end.
+// first and second: start and end of a block; past the last block none. Refuses as the check.
 #[no_mangle]
 pub extern "C" fn hybit_layout_block_range(
     entity_kinds: &[u8],
@@ -156,7 +157,7 @@ pub extern "C" fn hybit_layout_block_range(
     ))
 }
 
-// first and second: block and component.
+// first and second: block and component of a node; past the last node none. Refuses as the check.
 #[no_mangle]
 pub extern "C" fn hybit_layout_locate(
     entity_kinds: &[u8],
@@ -178,6 +179,7 @@ pub extern "C" fn hybit_layout_locate(
     ))
 }
 
+// Whether the total is both sides. Refuses as the check, then 18.
 #[no_mangle]
 pub extern "C" fn hybit_layout_validate_square_matrix_size(
     entity_kinds: &[u8],
@@ -201,7 +203,7 @@ pub extern "C" fn hybit_layout_validate_square_matrix_size(
     ))
 }
 
-// value: the mask's length.
+// The mask of a field's nodes in `out`, which needs the words of a mask of the total; value: the total. Refuses as the check, then 25.
 #[no_mangle]
 pub extern "C" fn hybit_layout_field_mask(
     entity_kinds: &[u8],

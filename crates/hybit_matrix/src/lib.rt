@@ -35,7 +35,7 @@ pub struct Answer {
     pub value: u64,
 }
 
-// An answer of two numbers: start and end of a range, or block and component. The rest is as in `Answer`.
+// An answer of two numbers, named at each call. The rest is as in `Answer`.
 #[repr(C)]
 pub struct PairAnswer {
     pub number: u32,
@@ -127,6 +127,7 @@ fn flat_selected(s: Selected) -> Answer
     }
 }
 
+// The width of a word, 64.
 #[no_mangle]
 pub extern "C" fn hybit_word_bits() -> usize
     ensures { λ r. ⌜ r ≡ 64 ⌝ }
@@ -134,6 +135,7 @@ pub extern "C" fn hybit_word_bits() -> usize
     AbtmTopologyWord::BITS
 }
 
+// The word's number in its row.
 #[no_mangle]
 pub extern "C" fn hybit_word_word_index(word_index: u32, mask: u64) -> u32
     ensures { λ r. ⌜ r ≡ «word_index» ⌝ }
@@ -141,6 +143,7 @@ pub extern "C" fn hybit_word_word_index(word_index: u32, mask: u64) -> u32
     AbtmTopologyWord::new(word_index, mask).word_index()
 }
 
+// The column of the word's bit 0: 64 times its number.
 #[no_mangle]
 pub extern "C" fn hybit_word_base_col(word_index: u32, mask: u64) -> usize
     ensures { λ r. ⌜ r ≡ «word_index» * 64 ⌝ }
@@ -148,6 +151,7 @@ pub extern "C" fn hybit_word_base_col(word_index: u32, mask: u64) -> usize
     AbtmTopologyWord::new(word_index, mask).base_col()
 }
 
+// The word's bits.
 #[no_mangle]
 pub extern "C" fn hybit_word_mask(word_index: u32, mask: u64) -> u64
     ensures { λ r. ⌜ r ≡ mask ⌝ }
@@ -155,6 +159,7 @@ pub extern "C" fn hybit_word_mask(word_index: u32, mask: u64) -> u64
     AbtmTopologyWord::new(word_index, mask).mask()
 }
 
+// How many bits are set.
 #[no_mangle]
 pub extern "C" fn hybit_word_popcount(word_index: u32, mask: u64) -> usize
     ensures { λ r. ⌜ r ≡ countBelow 64 (bitAt mask) ⌝ }
@@ -162,6 +167,7 @@ pub extern "C" fn hybit_word_popcount(word_index: u32, mask: u64) -> usize
     AbtmTopologyWord::new(word_index, mask).popcount()
 }
 
+// Whether bit `offset` is set; past 63: no.
 #[no_mangle]
 pub extern "C" fn hybit_word_contains_offset(word_index: u32, mask: u64, offset: usize) -> bool
     ensures { λ r. ⌜ r ≡ word.containsAnswer mask offset ⌝ }
@@ -169,6 +175,7 @@ pub extern "C" fn hybit_word_contains_offset(word_index: u32, mask: u64, offset:
     AbtmTopologyWord::new(word_index, mask).contains_offset(offset)
 }
 
+// value: how many set bits stand below `offset`. Refuses 13 past 64.
 #[no_mangle]
 pub extern "C" fn hybit_word_rank(word_index: u32, mask: u64, offset: usize) -> Answer
     ensures { λ r. ⌜ r ≡ flatRanked (rankAnswer mask offset) ⌝ }
@@ -176,6 +183,7 @@ pub extern "C" fn hybit_word_rank(word_index: u32, mask: u64, offset: usize) -> 
     flat_ranked(AbtmTopologyWord::new(word_index, mask).rank(offset))
 }
 
+// value: the set bit number `ordinal`, counted from 0; or none.
 #[no_mangle]
 pub extern "C" fn hybit_word_select(word_index: u32, mask: u64, ordinal: usize) -> Answer
     ensures { λ r. ⌜ r ≡ flatSelected (selectAnswer mask ordinal) ⌝ }
@@ -183,6 +191,7 @@ pub extern "C" fn hybit_word_select(word_index: u32, mask: u64, ordinal: usize) 
     flat_selected(AbtmTopologyWord::new(word_index, mask).select(ordinal))
 }
 
+// Checks a matrix: 1 to 8.
 #[no_mangle]
 pub extern "C" fn hybit_csr32_validate(
     nrows: usize,
@@ -196,6 +205,7 @@ pub extern "C" fn hybit_csr32_validate(
     flat_checked(csr32::validate(nrows, ncols, row_ptr, col_idx, values))
 }
 
+// Checks a mask: 1, 11, 12. A mask of `len` nodes has exactly `len` / 64 words, rounded up.
 #[no_mangle]
 pub extern "C" fn hybit_mask_check(len: usize, words: &[u64]) -> Answer
     ensures { λ r. ⌜ r ≡ flatChecked (maskCheck len (now (words .entry))) ⌝ }
@@ -203,6 +213,7 @@ pub extern "C" fn hybit_mask_check(len: usize, words: &[u64]) -> Answer
     flat_checked(mask::check(len, words))
 }
 
+// The empty mask in `out`, which needs its words. Refuses 1, 25.
 #[no_mangle]
 pub extern "C" fn hybit_mask_new(len: usize, out: &mut [u64]) -> Answer
     ensures { λ r. ⌜ r ≡ flatChecked (newCheck len (now (out .entry))) ⌝ }
@@ -211,6 +222,7 @@ pub extern "C" fn hybit_mask_new(len: usize, out: &mut [u64]) -> Answer
     flat_checked(mask::new(len, out))
 }
 
+// The mask of the indices in `out`, which needs its words. Refuses 1, 13, 25.
 #[no_mangle]
 pub extern "C" fn hybit_mask_from_indices(len: usize, indices: &[u64], out: &mut [u64]) -> Answer
     ensures { λ r. ⌜ r ≡ flatChecked (fromCheck len (now (indices .entry)) (now (out .entry))) ⌝ }
@@ -219,6 +231,7 @@ pub extern "C" fn hybit_mask_from_indices(len: usize, indices: &[u64], out: &mut
     flat_checked(mask::from_indices(len, indices, out))
 }
 
+// value: 1 if no node is set, else 0. Refuses as the check.
 #[no_mangle]
 pub extern "C" fn hybit_mask_is_empty(len: usize, words: &[u64]) -> Answer
     ensures { λ r. ⌜ r ≡ flatTruth (emptyAnswer len (now (words .entry))) ⌝ }
@@ -226,6 +239,7 @@ pub extern "C" fn hybit_mask_is_empty(len: usize, words: &[u64]) -> Answer
     flat_truth(mask::is_empty(len, words))
 }
 
+// value: how many nodes are set. Refuses as the check.
 #[no_mangle]
 pub extern "C" fn hybit_mask_count_ones(len: usize, words: &[u64]) -> Answer
     ensures { λ r. ⌜ r ≡ flatCounted (countAnswer len (now (words .entry))) ⌝ }
@@ -233,6 +247,7 @@ pub extern "C" fn hybit_mask_count_ones(len: usize, words: &[u64]) -> Answer
     flat_counted(mask::count_ones(len, words))
 }
 
+// Sets or clears one node. Refuses as the check, then 13.
 #[no_mangle]
 pub extern "C" fn hybit_mask_set(len: usize, words: &mut [u64], index: u64, value: bool) -> Answer
     ensures { λ r. ⌜ r ≡ flatChecked (setCheck len (now (words .entry)) index) ⌝ }
@@ -241,6 +256,7 @@ pub extern "C" fn hybit_mask_set(len: usize, words: &mut [u64], index: u64, valu
     flat_checked(mask::set(len, words, index, value))
 }
 
+// value: 1 if the node is set, else 0; past the length 0. Refuses as the check.
 #[no_mangle]
 pub extern "C" fn hybit_mask_contains(len: usize, words: &[u64], index: u64) -> Answer
     ensures { λ r. ⌜ r ≡ flatTruth (containsAnswer len (now (words .entry)) index) ⌝ }
@@ -248,6 +264,7 @@ pub extern "C" fn hybit_mask_contains(len: usize, words: &[u64], index: u64) -> 
     flat_truth(mask::contains(len, words, index))
 }
 
+// Joins the other mask to the first. Refuses as the check, then for the other 11 (its length, its words), 12.
 #[no_mangle]
 pub extern "C" fn hybit_mask_union_assign(
     len: usize,
@@ -261,6 +278,7 @@ pub extern "C" fn hybit_mask_union_assign(
     flat_checked(mask::union_assign(len, words, other_len, other))
 }
 
+// Keeps the nodes that both have. Refuses as the union.
 #[no_mangle]
 pub extern "C" fn hybit_mask_intersect_assign(
     len: usize,
@@ -274,6 +292,7 @@ pub extern "C" fn hybit_mask_intersect_assign(
     flat_checked(mask::intersect_assign(len, words, other_len, other))
 }
 
+// Takes the other mask's nodes away. Refuses as the union.
 #[no_mangle]
 pub extern "C" fn hybit_mask_and_not_assign(
     len: usize,
@@ -287,6 +306,7 @@ pub extern "C" fn hybit_mask_and_not_assign(
     flat_checked(mask::and_not_assign(len, words, other_len, other))
 }
 
+// value: 1 if both have a node, else 0. Refuses as the union.
 #[no_mangle]
 pub extern "C" fn hybit_mask_intersects(
     len: usize,
@@ -299,6 +319,7 @@ pub extern "C" fn hybit_mask_intersects(
     flat_truth(mask::intersects(len, words, other_len, other))
 }
 
+// The nodes in rising order in `out`, which needs one place for each; value: how many. Refuses as the check, then 25.
 #[no_mangle]
 pub extern "C" fn hybit_mask_indices(len: usize, words: &[u64], out: &mut [u64]) -> Answer
     ensures { λ r. ⌜ r ≡ flatCounted (indicesAnswer len (now (words .entry)) (now (out .entry))) ⌝ }
@@ -307,6 +328,7 @@ pub extern "C" fn hybit_mask_indices(len: usize, words: &[u64], out: &mut [u64])
     flat_counted(mask::indices(len, words, out))
 }
 
+// Sets the bits in one word; past the last word nothing changes, bits past the length are dropped. Refuses as the check.
 #[no_mangle]
 pub extern "C" fn hybit_mask_or_word(
     len: usize,

@@ -117,6 +117,8 @@ fn flat_plan(s: PlanPrepared) -> PlanAnswer
     }
 }
 
+// The local system's pattern: members, members + 1 row pointers, and one column for each pair inside. Refuses as the topology, 10, 11, 12 for
+// the region, 25.
 #[no_mangle]
 pub extern "C" fn hybit_extract_local_submatrix_pattern(
     nrows: usize,
@@ -163,6 +165,8 @@ pub extern "C" fn hybit_extract_local_submatrix_pattern(
     ))
 }
 
+// Pattern and plan: the pattern's lists, pairs + 1 source pointers, and one source for each entry inside. Refuses as the matrix, the topology, 22,
+// 10, 11, 12 for the region, by local row 23, 24, then 25.
 #[no_mangle]
 pub extern "C" fn hybit_prepare_local_numeric_plan(
     nrows: usize,
@@ -225,7 +229,8 @@ pub extern "C" fn hybit_prepare_local_numeric_plan(
     ))
 }
 
-// value: the number of pairs.
+// One value for each pair of a plan in `out`; value: how many. `source_value_len`: the number of values that the plan was made for. Refuses 1,
+// 26, 11, 8, 25.
 #[no_mangle]
 pub extern "C" fn hybit_gather_values(
     source_ptr: &[u32],

@@ -79,7 +79,7 @@ fn flat_built(b: SideBuilt) -> PairAnswer
     }
 }
 
-// value: 0.
+// Checks one side: 1, 9.
 #[no_mangle]
 pub extern "C" fn hybit_topology_validate(
     nrows: usize,
@@ -101,7 +101,7 @@ pub extern "C" fn hybit_topology_validate(
     ))
 }
 
-// All of `AbtmTopologyStats`.
+// Counts, bytes and ratios of one side. Refuses 1, 9.
 #[no_mangle]
 pub extern "C" fn hybit_topology_stats(
     nrows: usize,
@@ -123,7 +123,8 @@ pub extern "C" fn hybit_topology_stats(
     ))
 }
 
-// first and second: words and pairs.
+// One side of a matrix's pairs: the lists need nrows + 1 pointers and as many words as entries, zero past its own; first and second: words and
+// pairs. Refuses 1 to 8, 25.
 #[no_mangle]
 pub extern "C" fn hybit_topology_from_csr32(
     nrows: usize,
@@ -152,7 +153,8 @@ pub extern "C" fn hybit_topology_from_csr32(
     ))
 }
 
-// first and second: words and pairs.
+// The pairs that both sides have: the lists need nrows + 1 pointers and as many words as both together, zero past its own; first and second:
+// words and pairs. Refuses 1, 9 for each, 22, 25.
 #[no_mangle]
 pub extern "C" fn hybit_topology_intersection(
     nrows: usize,
@@ -195,7 +197,7 @@ pub extern "C" fn hybit_topology_intersection(
     ))
 }
 
-// first and second: words and pairs.
+// The pairs of either side; all else as the intersection.
 #[no_mangle]
 pub extern "C" fn hybit_topology_union(
     nrows: usize,
@@ -238,7 +240,7 @@ pub extern "C" fn hybit_topology_union(
     ))
 }
 
-// first and second: words and pairs.
+// The pairs of the first side that the second lacks; all else as the intersection.
 #[no_mangle]
 pub extern "C" fn hybit_topology_and_not(
     nrows: usize,
@@ -281,7 +283,7 @@ pub extern "C" fn hybit_topology_and_not(
     ))
 }
 
-// first and second: words and pairs.
+// The pairs that one side alone has; all else as the intersection.
 #[no_mangle]
 pub extern "C" fn hybit_topology_xor(
     nrows: usize,

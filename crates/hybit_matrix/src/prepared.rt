@@ -150,6 +150,9 @@ fn flat_prepared(s: RegionPrepared) -> PreparedAnswer
     }
 }
 
+// Topology, region, pattern and plan of a matrix, a layout and seeds in one call. Each side's pointers and words, `starts` and `order` as in
+// building; three masks; side members, side + 1 row pointers, as many columns and sources as entries, entries + 1 source pointers, zero past
+// the answer. Refuses as the matrix, the layout, 18, 11, 12 for the seeds, 25.
 #[no_mangle]
 pub extern "C" fn hybit_prepare_region(
     nrows: usize,
@@ -233,7 +236,7 @@ pub extern "C" fn hybit_prepare_region(
     ))
 }
 
-// value: the number of blocks.
+// As field_block_owners, on a matrix and its layout. Refuses as the matrix, the layout, 18, then as field_block_owners.
 #[no_mangle]
 pub extern "C" fn hybit_validate_block_owners(
     nrows: usize,
@@ -270,7 +273,7 @@ pub extern "C" fn hybit_validate_block_owners(
     ))
 }
 
-// value: how many bytes the answer's text has.
+// A job's text in, the answer's text out, a refused job's too; value: its length in bytes. Refuses 25 alone.
 #[no_mangle]
 pub extern "C" fn hybit_peak_job(input: &[u8], out: &mut [u8]) -> Answer
     ensures { λ r. ⌜ r ≡ flatCounted (textAnswer (answerText (now (input .entry))) (now (out .entry))) ⌝ }

@@ -192,6 +192,8 @@ fn flat_regions(s: RegionsCounted) -> MultiplicityAnswer
     }
 }
 
+// Region and frontier after `hops` hops, each node a block. Three masks of the side: region, frontier, and scratch, zero afterwards. Refuses as
+// the topology, 10, 11, 12 for the seeds, 25.
 #[no_mangle]
 pub extern "C" fn hybit_grow_undirected_region(
     nrows: usize,
@@ -240,6 +242,7 @@ pub extern "C" fn hybit_grow_undirected_region(
     ))
 }
 
+// The same by whole blocks of the layout. Refuses as the topology, the layout, 18, 11, 12 for the seeds, 25.
 #[no_mangle]
 pub extern "C" fn hybit_grow_field_aware_region(
     nrows: usize,
@@ -298,7 +301,7 @@ pub extern "C" fn hybit_grow_field_aware_region(
     ))
 }
 
-// value: the mask's length.
+// The whole blocks of the nodes in `out`, a mask of the total; value: the total. Refuses as the layout, 11, 12 for the mask, 25.
 #[no_mangle]
 pub extern "C" fn hybit_close_to_field_blocks(
     entity_kinds: &[u8],
@@ -325,7 +328,7 @@ pub extern "C" fn hybit_close_to_field_blocks(
     ))
 }
 
-// value: the number of blocks.
+// The owner of each block in `out`, which needs one place for each; value: how many. Refuses as the layout, 11, 19, by block 20, 21, then 25.
 #[no_mangle]
 pub extern "C" fn hybit_field_block_owners(
     entity_kinds: &[u8],
@@ -352,6 +355,8 @@ pub extern "C" fn hybit_field_block_owners(
     ))
 }
 
+// How many regions hold each node, in `counts`, which needs one place for each node. `words`: the masks of the regions one after the other.
+// Refuses 1, 11, 12, 25.
 #[no_mangle]
 pub extern "C" fn hybit_region_multiplicity(
     node_count: usize,
@@ -365,7 +370,7 @@ pub extern "C" fn hybit_region_multiplicity(
     flat_regions(multiplicity::region_multiplicity(node_count, region_count, words, counts))
 }
 
-// value: the weight.
+// value: the region's weight at a node, 65,536 divided by the node's multiplicity, rounded down; 0 where it does not hold it. Refuses 1, 11, 12, 13.
 #[no_mangle]
 pub extern "C" fn hybit_weight(
     node_count: usize,

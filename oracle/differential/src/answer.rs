@@ -21,8 +21,8 @@ pub struct Answer {
 /// bits.
 macro_rules! from_record {
     ($($record:ident { $($count:ident),*; $($ratio:ident),* })*) => {
-        $(impl From<hybit_port::$record> for Answer {
-            fn from(flat: hybit_port::$record) -> Self {
+        $(impl From<hybit_matrix::calls::$record> for Answer {
+            fn from(flat: hybit_matrix::calls::$record) -> Self {
                 Self {
                     number: flat.number,
                     present: flat.present,

@@ -15,6 +15,7 @@
 
 // An answer holds the values of the longest record, and is made once a call.
 #![allow(clippy::result_large_err)]
+#![forbid(unsafe_code)]
 
 mod answer;
 mod compare;

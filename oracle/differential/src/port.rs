@@ -1,22 +1,19 @@
-//! Calling the port.
+//! Calling the port by way of its binding for Rust: the calls on lent lists.
 
-/// Calls a function of the port. A list in brackets is lent as its pointer and
-/// its length: `port!(hybit_mask_check(mask.len, [mask.words]))`.
-///
-/// Lists that are only read are lent by `as_mut_ptr` too, so that a write to
-/// one of them would be seen in the call.
+/// Calls a function of the port. A list in brackets is lent:
+/// `port!(hybit_mask_check(mask.len, [mask.words]))`.
 macro_rules! port {
     ($function:ident($($arguments:tt)*)) => {
         port!(@ $function [] $($arguments)*)
     };
     (@ $function:ident [$($done:tt)*] [$list:expr] $(, $($rest:tt)*)?) => {
-        port!(@ $function [$($done)* $list.as_mut_ptr(), $list.len(),] $($($rest)*)?)
+        port!(@ $function [$($done)* $list.as_mut_slice(),] $($($rest)*)?)
     };
     (@ $function:ident [$($done:tt)*] $number:expr $(, $($rest:tt)*)?) => {
         port!(@ $function [$($done)* $number,] $($($rest)*)?)
     };
     (@ $function:ident [$($done:tt)*]) => {
-        hybit_port::$function($($done)*)
+        hybit_matrix::calls::$function($($done)*)
     };
 }
 pub(crate) use port;

@@ -64,17 +64,13 @@ impl GroupCall for Call {
 
     fn ask_port(&mut self) -> Answer {
         let Call::Validate(matrix) = self;
-        // SAFETY: every pointer goes with the length of its own list, and no
-        // two lists overlap.
-        let answer = unsafe {
-            port!(hybit_csr32_validate(
-                matrix.nrows,
-                matrix.ncols,
-                [matrix.row_ptr],
-                [matrix.col_idx],
-                [matrix.values]
-            ))
-        };
+        let answer = port!(hybit_csr32_validate(
+            matrix.nrows,
+            matrix.ncols,
+            [matrix.row_ptr],
+            [matrix.col_idx],
+            [matrix.values]
+        ));
         answer.into()
     }
 

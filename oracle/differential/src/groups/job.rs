@@ -62,9 +62,7 @@ impl GroupCall for Call {
     }
 
     fn ask_port(&mut self) -> Answer {
-        // SAFETY: every pointer goes with the length of its own list, and no
-        // two lists overlap.
-        unsafe { port!(hybit_peak_job([self.input], [self.out])) }.into()
+        port!(hybit_peak_job([self.input], [self.out])).into()
     }
 
     fn expect(&mut self) -> Result<Answer, Answer> {

@@ -23,75 +23,71 @@ macro_rules! on_layout {
 }
 
 pub fn answer(call: &mut Call) -> Answer {
-    // SAFETY: every pointer goes with the length of its own list, and no two
-    // lists of a call overlap.
-    unsafe {
-        match call {
-            Call::Grow {
-                topology,
-                seeds,
-                hops,
-                lent,
-            } => on_topology!(
-                hybit_grow_undirected_region,
-                topology,
-                seeds.len,
-                [seeds.words],
-                *hops,
-                [lent.region],
-                [lent.frontier],
-                [lent.scratch]
-            ),
-            Call::Multiplicity { regions, counts } => port!(hybit_region_multiplicity(
-                regions.node_count,
-                regions.region_count,
-                [regions.words],
-                [counts]
-            ))
-            .into(),
-            Call::Weight {
-                regions,
-                region,
-                node,
-            } => port!(hybit_weight(
-                regions.node_count,
-                regions.region_count,
-                [regions.words],
-                *region,
-                *node
-            ))
-            .into(),
-            Call::Close {
-                layout,
-                selected,
-                out,
-            } => on_layout!(
-                hybit_close_to_field_blocks,
-                layout,
-                selected.len,
-                [selected.words],
-                [out]
-            ),
-            Call::GrowField {
-                topology,
-                layout,
-                seeds,
-                hops,
-                lent,
-            } => grow_field(topology, layout, seeds, *hops, lent),
-            Call::Owners {
-                layout,
-                dof_owners,
-                ranks,
-                out,
-            } => on_layout!(
-                hybit_field_block_owners,
-                layout,
-                [dof_owners],
-                *ranks,
-                [out]
-            ),
-        }
+    match call {
+        Call::Grow {
+            topology,
+            seeds,
+            hops,
+            lent,
+        } => on_topology!(
+            hybit_grow_undirected_region,
+            topology,
+            seeds.len,
+            [seeds.words],
+            *hops,
+            [lent.region],
+            [lent.frontier],
+            [lent.scratch]
+        ),
+        Call::Multiplicity { regions, counts } => port!(hybit_region_multiplicity(
+            regions.node_count,
+            regions.region_count,
+            [regions.words],
+            [counts]
+        ))
+        .into(),
+        Call::Weight {
+            regions,
+            region,
+            node,
+        } => port!(hybit_weight(
+            regions.node_count,
+            regions.region_count,
+            [regions.words],
+            *region,
+            *node
+        ))
+        .into(),
+        Call::Close {
+            layout,
+            selected,
+            out,
+        } => on_layout!(
+            hybit_close_to_field_blocks,
+            layout,
+            selected.len,
+            [selected.words],
+            [out]
+        ),
+        Call::GrowField {
+            topology,
+            layout,
+            seeds,
+            hops,
+            lent,
+        } => grow_field(topology, layout, seeds, *hops, lent),
+        Call::Owners {
+            layout,
+            dof_owners,
+            ranks,
+            out,
+        } => on_layout!(
+            hybit_field_block_owners,
+            layout,
+            [dof_owners],
+            *ranks,
+            [out]
+        ),
     }
 }
 
@@ -102,22 +98,19 @@ fn grow_field(
     hops: u64,
     lent: &mut Lent,
 ) -> Answer {
-    // SAFETY: as above.
-    unsafe {
-        on_topology!(
-            hybit_grow_field_aware_region,
-            topology,
-            [layout.blocks.kinds],
-            [layout.blocks.ids],
-            [layout.blocks.fields],
-            [layout.blocks.components],
-            [layout.offsets],
-            seeds.len,
-            [seeds.words],
-            hops,
-            [lent.region],
-            [lent.frontier],
-            [lent.scratch]
-        )
-    }
+    on_topology!(
+        hybit_grow_field_aware_region,
+        topology,
+        [layout.blocks.kinds],
+        [layout.blocks.ids],
+        [layout.blocks.fields],
+        [layout.blocks.components],
+        [layout.offsets],
+        seeds.len,
+        [seeds.words],
+        hops,
+        [lent.region],
+        [lent.frontier],
+        [lent.scratch]
+    )
 }

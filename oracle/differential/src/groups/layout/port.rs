@@ -5,21 +5,17 @@ use crate::answer::Answer;
 use crate::port::port;
 
 pub fn answer(call: &mut Call) -> Answer {
-    // SAFETY: every pointer goes with the length of its own list, and no two
-    // lists of a call overlap.
-    unsafe {
-        match call {
-            Call::KindOf(code) => port!(hybit_kind_of(*code)).into(),
-            Call::New { blocks, out } => port!(hybit_layout_new(
-                [blocks.kinds],
-                [blocks.ids],
-                [blocks.fields],
-                [blocks.components],
-                [out]
-            ))
-            .into(),
-            Call::Asked(layout, question) => asked(layout, question),
-        }
+    match call {
+        Call::KindOf(code) => port!(hybit_kind_of(*code)).into(),
+        Call::New { blocks, out } => port!(hybit_layout_new(
+            [blocks.kinds],
+            [blocks.ids],
+            [blocks.fields],
+            [blocks.components],
+            [out]
+        ))
+        .into(),
+        Call::Asked(layout, question) => asked(layout, question),
     }
 }
 
@@ -39,22 +35,19 @@ macro_rules! on_layout {
 }
 
 fn asked(layout: &mut Layout, question: &mut Question) -> Answer {
-    // SAFETY: as above.
-    unsafe {
-        match question {
-            Question::Check => on_layout!(hybit_layout_check, layout),
-            Question::TotalDofs => on_layout!(hybit_layout_total_dofs, layout),
-            Question::BlockRange(index) => on_layout!(hybit_layout_block_range, layout, *index),
-            Question::Locate(dof) => on_layout!(hybit_layout_locate, layout, *dof),
-            Question::ValidateSquareMatrixSize { nrows, ncols } => on_layout!(
-                hybit_layout_validate_square_matrix_size,
-                layout,
-                *nrows,
-                *ncols
-            ),
-            Question::FieldMask { field_id, out } => {
-                on_layout!(hybit_layout_field_mask, layout, *field_id, [out])
-            }
+    match question {
+        Question::Check => on_layout!(hybit_layout_check, layout),
+        Question::TotalDofs => on_layout!(hybit_layout_total_dofs, layout),
+        Question::BlockRange(index) => on_layout!(hybit_layout_block_range, layout, *index),
+        Question::Locate(dof) => on_layout!(hybit_layout_locate, layout, *dof),
+        Question::ValidateSquareMatrixSize { nrows, ncols } => on_layout!(
+            hybit_layout_validate_square_matrix_size,
+            layout,
+            *nrows,
+            *ncols
+        ),
+        Question::FieldMask { field_id, out } => {
+            on_layout!(hybit_layout_field_mask, layout, *field_id, [out])
         }
     }
 }

@@ -34,33 +34,29 @@ pub fn answer(call: &mut Call) -> Answer {
 }
 
 fn prepare(call: &mut Prepare) -> Answer {
-    // SAFETY: every pointer goes with the length of its own list, and no two
-    // lists of a call overlap.
-    let answer: Answer = unsafe {
-        on_matrix_and_layout!(
-            hybit_prepare_region,
-            call,
-            call.seeds.len,
-            [call.seeds.words],
-            call.hops,
-            [call.lent.sides.rows.row_word_ptr],
-            [call.lent.sides.rows.word_indices],
-            [call.lent.sides.rows.masks],
-            [call.lent.sides.columns.row_word_ptr],
-            [call.lent.sides.columns.word_indices],
-            [call.lent.sides.columns.masks],
-            [call.lent.sides.starts],
-            [call.lent.sides.order],
-            [call.lent.masks.region],
-            [call.lent.masks.frontier],
-            [call.lent.masks.scratch],
-            [call.lent.plan.pattern.global_nodes],
-            [call.lent.plan.pattern.row_ptr],
-            [call.lent.plan.pattern.col_idx],
-            [call.lent.plan.source_ptr],
-            [call.lent.plan.source_indices]
-        )
-    };
+    let answer: Answer = on_matrix_and_layout!(
+        hybit_prepare_region,
+        call,
+        call.seeds.len,
+        [call.seeds.words],
+        call.hops,
+        [call.lent.sides.rows.row_word_ptr],
+        [call.lent.sides.rows.word_indices],
+        [call.lent.sides.rows.masks],
+        [call.lent.sides.columns.row_word_ptr],
+        [call.lent.sides.columns.word_indices],
+        [call.lent.sides.columns.masks],
+        [call.lent.sides.starts],
+        [call.lent.sides.order],
+        [call.lent.masks.region],
+        [call.lent.masks.frontier],
+        [call.lent.masks.scratch],
+        [call.lent.plan.pattern.global_nodes],
+        [call.lent.plan.pattern.row_ptr],
+        [call.lent.plan.pattern.col_idx],
+        [call.lent.plan.source_ptr],
+        [call.lent.plan.source_indices]
+    );
     if answer.number == 0 {
         gather(call, answer);
     }
@@ -94,14 +90,11 @@ fn front(list: &[u32], count: usize) -> Vec<u32> {
 }
 
 fn owners(call: &mut Owners) -> Answer {
-    // SAFETY: as above.
-    unsafe {
-        on_matrix_and_layout!(
-            hybit_validate_block_owners,
-            call,
-            [call.dof_owners],
-            call.ranks,
-            [call.out]
-        )
-    }
+    on_matrix_and_layout!(
+        hybit_validate_block_owners,
+        call,
+        [call.dof_owners],
+        call.ranks,
+        [call.out]
+    )
 }

@@ -58,29 +58,25 @@ macro_rules! on_two_sides {
 }
 
 pub fn answer(call: &mut Call) -> Answer {
-    // SAFETY: every pointer goes with the length of its own list, and no two
-    // lists of a call overlap.
-    unsafe {
-        match call {
-            Call::SideValidate(side) => on_side!(hybit_topology_validate, side),
-            Call::SideStats(side) => on_side!(hybit_topology_stats, side),
-            Call::SideFromCsr32(matrix, out) => on_matrix!(
-                hybit_topology_from_csr32,
-                matrix,
-                [out.row_word_ptr],
-                [out.word_indices],
-                [out.masks]
-            ),
-            Call::Combine(operation, a, b, out) => combine(*operation, a, b, out),
-            Call::Validate(Topology { rows, columns }) => {
-                on_two_sides!(hybit_dual_topology_validate, rows, columns)
-            }
-            Call::Stats(Topology { rows, columns }) => {
-                on_two_sides!(hybit_dual_topology_stats, rows, columns)
-            }
-            Call::FromCsr32(matrix, out) => from_csr32(matrix, out),
-            Call::OfRow(topology, row, question) => of_row(topology, *row, *question),
+    match call {
+        Call::SideValidate(side) => on_side!(hybit_topology_validate, side),
+        Call::SideStats(side) => on_side!(hybit_topology_stats, side),
+        Call::SideFromCsr32(matrix, out) => on_matrix!(
+            hybit_topology_from_csr32,
+            matrix,
+            [out.row_word_ptr],
+            [out.word_indices],
+            [out.masks]
+        ),
+        Call::Combine(operation, a, b, out) => combine(*operation, a, b, out),
+        Call::Validate(Topology { rows, columns }) => {
+            on_two_sides!(hybit_dual_topology_validate, rows, columns)
         }
+        Call::Stats(Topology { rows, columns }) => {
+            on_two_sides!(hybit_dual_topology_stats, rows, columns)
+        }
+        Call::FromCsr32(matrix, out) => from_csr32(matrix, out),
+        Call::OfRow(topology, row, question) => of_row(topology, *row, *question),
     }
 }
 
@@ -97,33 +93,27 @@ fn combine(operation: Operation, a: &mut Side, b: &mut Side, out: &mut Lent) -> 
             )
         };
     }
-    // SAFETY: as above.
-    unsafe {
-        match operation {
-            Operation::Intersection => combined!(hybit_topology_intersection),
-            Operation::Union => combined!(hybit_topology_union),
-            Operation::AndNot => combined!(hybit_topology_and_not),
-            Operation::Xor => combined!(hybit_topology_xor),
-        }
+    match operation {
+        Operation::Intersection => combined!(hybit_topology_intersection),
+        Operation::Union => combined!(hybit_topology_union),
+        Operation::AndNot => combined!(hybit_topology_and_not),
+        Operation::Xor => combined!(hybit_topology_xor),
     }
 }
 
 fn from_csr32(matrix: &mut Matrix, out: &mut BothLent) -> Answer {
-    // SAFETY: as above.
-    unsafe {
-        on_matrix!(
-            hybit_dual_topology_from_csr32,
-            matrix,
-            [out.rows.row_word_ptr],
-            [out.rows.word_indices],
-            [out.rows.masks],
-            [out.columns.row_word_ptr],
-            [out.columns.word_indices],
-            [out.columns.masks],
-            [out.starts],
-            [out.order]
-        )
-    }
+    on_matrix!(
+        hybit_dual_topology_from_csr32,
+        matrix,
+        [out.rows.row_word_ptr],
+        [out.rows.word_indices],
+        [out.rows.masks],
+        [out.columns.row_word_ptr],
+        [out.columns.word_indices],
+        [out.columns.masks],
+        [out.starts],
+        [out.order]
+    )
 }
 
 fn of_row(topology: &mut Topology, row: Row, question: Question) -> Answer {
@@ -133,15 +123,12 @@ fn of_row(topology: &mut Topology, row: Row, question: Question) -> Answer {
             on_two_sides!($function, rows, columns, row.columns, row.number $(, $more)?)
         };
     }
-    // SAFETY: as above.
-    unsafe {
-        match question {
-            Question::Words => asked!(hybit_row_words),
-            Question::Popcount => asked!(hybit_row_popcount),
-            Question::Contains(col) => asked!(hybit_row_contains, col),
-            Question::Rank(col) => asked!(hybit_row_rank, col),
-            Question::Select(ordinal) => asked!(hybit_row_select, ordinal),
-            Question::Word(k) => asked!(hybit_row_word, k),
-        }
+    match question {
+        Question::Words => asked!(hybit_row_words),
+        Question::Popcount => asked!(hybit_row_popcount),
+        Question::Contains(col) => asked!(hybit_row_contains, col),
+        Question::Rank(col) => asked!(hybit_row_rank, col),
+        Question::Select(ordinal) => asked!(hybit_row_select, ordinal),
+        Question::Word(k) => asked!(hybit_row_word, k),
     }
 }
