@@ -1,6 +1,6 @@
 pub mod Codes
 pub mod Orders
-pub mod Notes
+pub mod Tables
 pub mod Layouts
 pub mod Fields
 pub mod Worked

@@ -4,17 +4,16 @@ use mathlib.Core.Path.{_≡_, refl, sym, ap, ap₂, _∙_, subst}
 use mathlib.Core.Logic.{_⊎_, inl, inr}
 use mathlib.Core.Bool.{Bool, true, false, _&&_, _||_}
 use mathlib.Core.List.{List}
-use Prim.Native.Nat.{ℕ, _+_, _<_}
+use Prim.Native.Nat.{ℕ, _+_, _-_, _<_}
 use native.Mathlib.Omega.{arith}
 use native.Mathlib.Decide.{ℕ-discrete}
 use borrow.Author.Tests.{eq-eqb, ne-eqb, le-ltb}
 use lib.Dec.{T, ltb, eqb, ltb→lt, lt→ltb, eqb→eq}
 use lib.ListN.{getD}
-use Rattle.base.specs.Sets.{anyBelow}
 use Rattle.base.proofs.Bools.{and-l, and-r, and-i, or-l, or-r, or-e, T-false, T-of, not-T-of, or-false}
-use Rattle.base.proofs.Sets.{any-none, below-next}
+use Rattle.base.proofs.Sets.{any-none}
 use Rattle.dof_layout.specs.Layout.{sameKey}
-use Rattle.dof_layout.specs.Keys.{above-or, aboveKey, Highest}
+use Rattle.dof_layout.specs.Keys.{repeated, above-or, aboveKey, Highest}
 
 -- ---- one number before the rest
 
@@ -68,16 +67,19 @@ module _ (first second third : List ℕ) where
   above-same a b top p q r = rw (p, q, r) refl
 
   -- the next block is above the highest: now it is the highest
-  pub highest-new : (top b : ℕ) → Highest first second third top b → aboveKey first second third b top ≡ true → Highest first second third b (b + 1)
+  highest-new : (top b : ℕ) → Highest first second third top b → aboveKey first second third b top ≡ true → Highest first second third b (b + 1)
   highest-new top b h e a l = T-false (aboveKey first second third a b) (λ t. go t (ℕ-discrete a b))
     where
       go : T (aboveKey first second third a b) → Dec (a ≡ b) → ⊥
       go t (yes d) = above-never b (subst (λ (x : ℕ). T (aboveKey first second third x b)) d t)
       go t (no n) = not-T-of (aboveKey first second third a top) (h a (omega arith)) (above-trans a b top t (T-of _ e))
 
-  -- it is not: the highest stays
-  pub highest-old : (top b : ℕ) → Highest first second third top b → aboveKey first second third b top ≡ false → Highest first second third top (b + 1)
-  highest-old top b h e = below-next (λ a. aboveKey first second third a top ≡ false) b h e
+  -- blocks that rise: the last is the highest
+  pub highest-first : Highest first second third 0 1
+  highest-first a l = let d : a ≡ 0 = omega arith in T-false (aboveKey first second third a 0) (λ t. above-never 0 (subst (λ (x : ℕ). T (aboveKey first second third x 0)) d t))
+
+  pub highest-last : (b : ℕ) → Highest first second third (b - 1) b → aboveKey first second third b (b - 1) ≡ true → Highest first second third (b + 1 - 1) (b + 1)
+  highest-last b h e = let d : b ≡ b + 1 - 1 = omega arith in subst (λ (x : ℕ). Highest first second third x (b + 1)) d (highest-new (b - 1) b h e)
 
 -- ---- the search that is left out
 
@@ -111,13 +113,13 @@ module _ (kinds ids fields : List ℕ) (b : ℕ) where
       last false = refl
 
   -- a key above the highest of the earlier ones repeats none of them
-  pub skip : (top : ℕ) → Highest kinds ids fields top b → aboveKey kinds ids fields b top ≡ true → anyBelow b (λ a. sameKey kinds ids fields a b) ≡ false
+  pub skip : (top : ℕ) → Highest kinds ids fields top b → aboveKey kinds ids fields b top ≡ true → repeated kinds ids fields b ≡ false
   skip top h e =
       any-none b (λ a. sameKey kinds ids fields a b)
       (λ a l t. let s = alike a t in not-T-of (aboveKey kinds ids fields a top) (h a l) (T-of _ (above-same kinds ids fields a b top (s .0) (s .1) (s .2) ∙ e)))
 
   -- and so in the other order
-  pub skip-by-field : (top : ℕ) → Highest fields kinds ids top b → aboveKey fields kinds ids b top ≡ true → anyBelow b (λ a. sameKey kinds ids fields a b) ≡ false
+  pub skip-by-field : (top : ℕ) → Highest fields kinds ids top b → aboveKey fields kinds ids b top ≡ true → repeated kinds ids fields b ≡ false
   skip-by-field top h e =
       any-none b (λ a. sameKey kinds ids fields a b)
       (λ a l t. let s = alike a t in not-T-of (aboveKey fields kinds ids a top) (h a l) (T-of _ (above-same fields kinds ids a b top (s .2) (s .0) (s .1) ∙ e)))

@@ -1,18 +1,29 @@
--- An order of the blocks' keys, and a note of those seen. No promise of a public call speaks of them: they let the search for a repeated
--- key be left out.
+-- The first block that repeats the key of an earlier one, an order of keys, and a table of the keys met. No promise of a public call speaks
+-- of them: they are for the search alone.
 use mathlib.Core.Path.{_≡_}
-use mathlib.Core.Bool.{Bool, false, _&&_, _||_}
+use mathlib.Core.Bool.{Bool, true, false, _&&_, _||_}
 use mathlib.Core.List.{List}
-use Prim.Native.Nat.{ℕ, _-_, _*_, _/_, _^_, _<_}
+use Prim.Native.Nat.{ℕ, _+_, _*_, _/_, _^_, _≤_, _<_}
 use lib.Bits.{bitAnd, bitXor}
-use lib.Dec.{T, ltb, eqb}
+use lib.Dec.{ltb, eqb}
 use lib.ListN.{length, getD}
-use Rattle.mask.specs.Mask.{inMask, IsMask}
+use Rattle.base.specs.Sets.{anyBelow, firstBelow}
+use Rattle.dof_layout.specs.Layout.{sameKey}
 
 -- the ids and the fields of as many blocks as there are kinds
 pub record Keyed (kinds ids fields : List ℕ) : Type 0 where
   pub ids-length : length ids ≡ length kinds
   pub fields-length : length fields ≡ length kinds
+
+-- block b repeats the key of an earlier one
+abbrev pub repeated : List ℕ → List ℕ → List ℕ → ℕ → Bool
+repeated kinds ids fields b = anyBelow b (λ a. sameKey kinds ids fields a b)
+
+-- the first of the blocks below `count` that does, or `count`
+abbrev pub firstTwin : List ℕ → List ℕ → List ℕ → ℕ → ℕ
+firstTwin kinds ids fields count = firstBelow count (repeated kinds ids fields)
+
+-- ---- an order of keys
 
 -- x is above y, or they are equal and the rest decides
 abbrev pub above-or : ℕ → ℕ → Bool → Bool
@@ -27,22 +38,43 @@ aboveKey first second third a b =
 abbrev pub Highest : List ℕ → List ℕ → List ℕ → ℕ → ℕ → Type 0
 Highest first second third top b = (a : ℕ) → a < b → aboveKey first second third a top ≡ false
 
+-- ---- a table of keys
+
 -- a key's bits, mixed
 abbrev pub mixed : ℕ → ℕ → ℕ → ℕ
-mixed kind id field = bitXor (bitXor id (field * 2654435761)) (kind * 40503)
+mixed kind id field =
+    bitXor (bitXor (bitAnd id 4294967295 * 2654435761) (id / 2 ^ 32 * 2246822519)) (bitXor (field * 3266489917) (kind * 668265263))
 
-abbrev pub folded : ℕ → ℕ
-folded x = bitXor (bitXor x (x / 2 ^ 18)) (x / 2 ^ 36)
+-- and spread over a word: a function of the key alone
+unfoldable pub spreadOf : ℕ → ℕ → ℕ → ℕ
+spreadOf kind id field = bitAnd (bitXor (mixed kind id field) (mixed kind id field / 2 ^ 32)) 4294967295 * 2654435769
 
--- the slot in which a key is noted, of so many slots: a function of the key alone
-unfoldable pub slotOf : ℕ → ℕ → ℕ → ℕ → ℕ
-slotOf kind id field slots = bitAnd (folded (mixed kind id field)) (slots - 1)
+abbrev pub spreadAt : List ℕ → List ℕ → List ℕ → ℕ → ℕ
+spreadAt kinds ids fields b = spreadOf (getD kinds b 0) (getD ids b 0) (getD fields b 0)
 
-abbrev pub slotAt : List ℕ → List ℕ → List ℕ → ℕ → ℕ → ℕ
-slotAt kinds ids fields slots b = slotOf (getD kinds b 0) (getD ids b 0) (getD fields b 0) slots
+-- the class of block b, where the classes are 0 to `last`
+abbrev pub classAt : List ℕ → List ℕ → List ℕ → ℕ → ℕ → ℕ
+classAt kinds ids fields last b = bitAnd (spreadAt kinds ids fields b / 2 ^ 32) last
 
--- a mask of slots in which every block before b is noted
-pub record Noted (kinds ids fields seen : List ℕ) (b : ℕ) : Type 0 where
-  pub some : 0 < length seen
-  pub mask : IsMask (length seen * 64) seen
-  pub each : (a : ℕ) → a < b → T (inMask seen (slotAt kinds ids fields (length seen * 64) a))
+-- the slot from which block b is looked for, one of 0 to `last`
+abbrev pub homeAt : List ℕ → List ℕ → List ℕ → ℕ → ℕ → ℕ
+homeAt kinds ids fields last b = bitAnd (spreadAt kinds ids fields b / 2 ^ 17) last
+
+-- block a stands in a slot from `from` up to, and without, `to`, by its number and one
+pub record StandsIn (table : List ℕ) (a from to : ℕ) : Type 0 where
+  pub slot : ℕ
+  pub at-least : from ≤ slot
+  pub below : slot < to
+  pub named : getD table slot 0 ≡ a + 1
+
+-- a table of the blocks before b that are of one class: 0 is a free slot, and before each free slot from its home on such a block stands
+pub record Table (kinds ids fields table : List ℕ) (last-class class last-slot b : ℕ) : Type 0 where
+  pub earlier : (s : ℕ) → s < length table → getD table s 0 ≤ b
+  pub each : (a : ℕ) → a < b → classAt kinds ids fields last-class a ≡ class → (s : ℕ) → homeAt kinds ids fields last-slot a ≤ s → s < length table
+      → getD table s 0 ≡ 0 → StandsIn table a (homeAt kinds ids fields last-slot a) s
+
+-- `twin` repeats a key, or is `count`; no block before it does that is of a class from `from` up to, and without, `to`
+pub record Twin (kinds ids fields : List ℕ) (last-class from to count twin : ℕ) : Type 0 where
+  pub within : twin ≤ count
+  pub none : (b : ℕ) → b < twin → from ≤ classAt kinds ids fields last-class b → classAt kinds ids fields last-class b < to → repeated kinds ids fields b ≡ false
+  pub twice : twin < count → repeated kinds ids fields twin ≡ true

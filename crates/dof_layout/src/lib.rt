@@ -10,7 +10,8 @@ ghost use Rattle.dof_layout.specs.Answers.{codeOf, kindAnswer, newAnswer
 mod blocks;
 pub mod inner;
 mod keys;
-mod seen;
+mod table;
+mod twins;
 
 pub enum DofEntityKind {
     Node,

@@ -1,13 +1,10 @@
 -- `dof_layout::blocks::check` meets its contract. Assumes nothing.
 use mathlib.Core.Path.{ap}
 use mathlib.Core.Bool.{not}
-use native.Mathlib.Omega.{arith}
 use borrow.Author.Tests.{eq-eqb, ne-eqb}
-use lib.ListN.{length}
 use borrow.Author.Needs.{needs}
 use Rattle.base.proofs.Checks.{pass, stop, length-pass, length-stop}
 use Rattle.dof_layout.specs.Layout.{blocksCheck}
-use Rattle.dof_layout.proofs.Notes.{none-noted}
 use Rattle.dof_layout.proofs.blocks.check.Statement.{statement}
 use Rattle.dof_layout.proofs.blocks.check.Tie as tie
 
@@ -41,29 +38,14 @@ returns-4 c =
     pass _ _ _ _ (ap not (ne-eqb _ _ (c .before .before .before .before .if1 .left)))
     (length-pass _ _ _ _ (eq-eqb _ _ (c .before .before .before .if2 .left)) (length-pass _ _ _ _ (eq-eqb _ _ (c .before .before .if3 .left)) (length-stop _ _ _ _ (ne-eqb _ _ (c .before .if4 .taken)) (c .wrong-length3 .ensures))))
 
-slice-aggregate-check-each : tie.Need-slice-aggregate-check-each
-slice-aggregate-check-each c = search needs
-
 check-each-requires : tie.Need-check-each-requires
-check-each-requires c κs = (record { ids-length = c .before .before .before .before .if2 .left; fields-length = c .before .before .before .if3 .left }, c .before .before .if4 .left, none-noted _ _ _ 16 (omega arith) (omega arith))
+check-each-requires c κs = (record { ids-length = c .before .before .if2 .left; fields-length = c .before .if3 .left }, c .if4 .left)
 
 returns-5 : tie.Need-returns-5
 unfolding blocksCheck
 returns-5 c =
-    pass _ _ _ _ (ap not (ne-eqb _ _ (c .before .before .before .before .before .before .before .if1 .left)))
-    (length-pass _ _ _ _ (eq-eqb _ _ (c .before .before .before .before .before .before .if2 .left)) (length-pass _ _ _ _ (eq-eqb _ _ (c .before .before .before .before .before .if3 .left)) (length-pass _ _ _ _ (eq-eqb _ _ (c .before .before .before .before .if4 .left)) (c .before .check-each .ensures))))
-
-slice-aggregate-check-each-2 : tie.Need-slice-aggregate-check-each-2
-slice-aggregate-check-each-2 c = search needs
-
-check-each-requires-2 : tie.Need-check-each-requires-2
-check-each-requires-2 c κs = (record { ids-length = c .before .before .before .before .if2 .left; fields-length = c .before .before .before .if3 .left }, c .before .before .if4 .left, none-noted _ _ _ 4096 (omega arith) (omega arith))
-
-returns-6 : tie.Need-returns-6
-unfolding blocksCheck
-returns-6 c =
-    pass _ _ _ _ (ap not (ne-eqb _ _ (c .before .before .before .before .before .before .before .if1 .left)))
-    (length-pass _ _ _ _ (eq-eqb _ _ (c .before .before .before .before .before .before .if2 .left)) (length-pass _ _ _ _ (eq-eqb _ _ (c .before .before .before .before .before .if3 .left)) (length-pass _ _ _ _ (eq-eqb _ _ (c .before .before .before .before .if4 .left)) (c .before .check-each2 .ensures))))
+    pass _ _ _ _ (ap not (ne-eqb _ _ (c .before .before .before .before .if1 .left)))
+    (length-pass _ _ _ _ (eq-eqb _ _ (c .before .before .before .if2 .left)) (length-pass _ _ _ _ (eq-eqb _ _ (c .before .before .if3 .left)) (length-pass _ _ _ _ (eq-eqb _ _ (c .before .if4 .left)) (c .check-each .ensures))))
 
 pub check-spec : {M : Type 1} → statement M
 check-spec =
@@ -77,9 +59,5 @@ check-spec =
     returns-3
     wrong-length-requires-3
     returns-4
-    slice-aggregate-check-each
     check-each-requires
-    returns-5
-    slice-aggregate-check-each-2
-    check-each-requires-2
-    returns-6)
+    returns-5)
