@@ -10,6 +10,7 @@ use Rattle.base.specs.Checks.{leaves}
 use Rattle.base.specs.Lists.{over}
 use Rattle.base.specs.declared.Checked.{Checked}
 use Rattle.base.specs.declared.Counted.{Counted}
+use Rattle.field_region.specs.Closure.{closeAnswer}
 use Rattle.gather.specs.Gather.{gatherAnswer}
 use Rattle.pattern.specs.Pattern.{patternAnswer}
 use Rattle.pattern.specs.declared.AbtmLocalSubmatrixPatternStats.{AbtmLocalSubmatrixPatternStats}
@@ -34,3 +35,7 @@ pattern-accepted (Checked.Refused r) n p s stats e = let z : _≡_ {A = ℕ} 0 1
 pub gather-accepted : (check : Checked) (ptr : List ℕ) (pairs : ℕ) → gatherAnswer check ptr ≡ Counted.Count pairs → check ≡ Checked.Accepted
 gather-accepted Checked.Accepted ptr pairs e = refl
 gather-accepted (Checked.Refused r) ptr pairs e = let z : _≡_ {A = ℕ} 0 1 = cc in absurd (omega arith)
+
+pub close-accepted : (check : Checked) (len nodes : ℕ) → closeAnswer check len ≡ Counted.Count nodes → check ≡ Checked.Accepted
+close-accepted Checked.Accepted len nodes e = refl
+close-accepted (Checked.Refused r) len nodes e = let z : _≡_ {A = ℕ} 0 1 = cc in absurd (omega arith)

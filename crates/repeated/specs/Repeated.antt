@@ -1,4 +1,5 @@
--- A repeated growth answers the hops that one growth completes, a repeated pattern or gather the count of pairs, a repeated plan that of sources.
+-- A repeated growth answers the hops that one growth completes, a repeated closing the count of nodes, a repeated pattern or gather that of pairs,
+-- a repeated plan that of sources.
 use mathlib.Core.Bool.{true, false}
 use Prim.Native.Nat.{ℕ}
 use Rattle.base.specs.declared.Refusal.{Refusal}

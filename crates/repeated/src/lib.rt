@@ -1,5 +1,6 @@
-// For the benchmark only: a growth, a pattern, a plan or a gather made many times after one check of its inputs, so that its own time can be told
-// from the time of the checks. It leaves and answers what one call does. No part of the static library.
+// For the benchmark only: a growth, a closing, a pattern, a plan or a gather made many times after one check of its inputs, so that its own time
+// can be told from the time of the checks. It leaves and answers what one call does. No part of the static library.
+use base::Counted;
 use base::Refusal;
 use field_region::BlocksGrown;
 use field_region::FieldGrown;
@@ -7,7 +8,9 @@ use growth::Grown;
 use region::RegionGrown;
 ghost use mathlib.Core.Path.{_≡_};
 ghost use mathlib.Core.Bool.{false};
+ghost use Prim.Native.Nat.{_≤_};
 ghost use lib.ListN.{length};
+ghost use Rattle.base.specs.Checks.{sideLimit};
 ghost use Rattle.mask.specs.Mask.{wordsFor, maskWords, IsMask};
 ghost use Rattle.dof_layout.specs.Layout.{totalOf, offsetsOf};
 ghost use Rattle.dof_layout.specs.Answers.{squareCheck};
@@ -18,11 +21,12 @@ ghost use Rattle.growth.specs.Visits.{grownBy};
 ghost use Rattle.growth.specs.Lent.{regionLeft, frontierLeft, scratchLeft};
 ghost use Rattle.region.specs.Growth.{growCheck, growAnswer};
 ghost use Rattle.field_region.specs.Growth.{fieldGrowCheck, fieldGrowAnswer, blocksGrownBy};
-ghost use Rattle.repeated.specs.Repeated.{hopsAnswer, fieldHopsAnswer};
+ghost use Rattle.field_region.specs.Closure.{closeCheck, closeAnswer, closedWords, closeWords};
+ghost use Rattle.repeated.specs.Repeated.{hopsAnswer, fieldHopsAnswer, countAnswer};
 
 pub mod local;
 
-// The value: the hops completed, or the count of pairs or of sources.
+// The value: the hops completed, or the count of nodes, of pairs or of sources.
 #[repr(C)]
 pub struct Answer {
     pub number: u32,
@@ -319,6 +323,65 @@ pub extern "C" fn hybit_repeated_field_growth(
                 expected: 0,
                 actual: 0,
                 value: grown.grown.hops,
+            }
+        }
+    }
+}
+
+// The closing `times` more, on a list that holds it: it stays as it is.
+fn repeat_closing(components: &[u32], offsets: &[u64], words: &[u64], times: u64, out: &mut [u64])
+    requires { ⌜ (now offsets ≡ offsetsOf (now components)) × (totalOf (now components) ≤ sideLimit) × IsMask (totalOf (now components)) (now words) × (now out ≡ closedWords (now components) (now words)) ⌝ }
+    ensures { λ _. ⌜ now (out .exit) ≡ now (out .entry) ⌝ }
+{
+    let mut t: u64 = 0;
+    while t < times {
+        field_region::inner::close(components, offsets, words, out);
+        t += 1;
+    }
+}
+
+// The value is the count of nodes.
+#[no_mangle]
+pub extern "C" fn hybit_repeated_closing(
+    entity_kinds: &[u8],
+    entity_ids: &[u64],
+    field_ids: &[u32],
+    components: &[u32],
+    offsets: &[u64],
+    len: usize,
+    words: &[u64],
+    times: u64,
+    out: &mut [u64],
+) -> Answer
+    ensures { λ r. ⌜ r ≡ countAnswer (closeAnswer (closeCheck (now («entity_kinds» .entry)) (now («entity_ids» .entry)) (now («field_ids» .entry)) (now (components .entry)) (now (offsets .entry)) len (now (words .entry)) (now (out .entry))) len) ⌝ }
+    ensures { λ _. ⌜ now (out .exit) ≡ closeWords (closeCheck (now («entity_kinds» .entry)) (now («entity_ids» .entry)) (now («field_ids» .entry)) (now (components .entry)) (now (offsets .entry)) len (now (words .entry)) (now (out .entry))) (now (components .entry)) (now (words .entry)) (now (out .entry)) ⌝ }
+{
+    match field_region::close_to_field_blocks(
+        entity_kinds,
+        entity_ids,
+        field_ids,
+        components,
+        offsets,
+        len,
+        words,
+        out,
+    ) {
+        Counted::Refused(r) => Answer {
+            number: r.number,
+            present: false,
+            expected: r.expected,
+            actual: r.actual,
+            value: 0,
+        },
+        Counted::Count(nodes) => {
+            let need = mask::inner::words_for(len);
+            repeat_closing(components, offsets, words, times, &mut out[..need]);
+            Answer {
+                number: 0,
+                present: true,
+                expected: 0,
+                actual: 0,
+                value: nodes,
             }
         }
     }

@@ -60,6 +60,15 @@ fn seeds(rows: usize) -> [(&'static str, DofMask); 2] {
         .map(|(named, nodes)| (named, DofMask::from_indices(rows, &nodes).expect("nodes")))
 }
 
+/// Three in ten, in no order.
+fn scattered_seeds(rows: usize) -> (&'static str, DofMask) {
+    let nodes: Vec<usize> = (0..rows)
+        .filter(|&node| (node as u32).wrapping_mul(2_654_435_761) % 1_000 < 300)
+        .collect();
+    let mask = DofMask::from_indices(rows, &nodes).expect("nodes");
+    ("30 % seeds", mask)
+}
+
 fn plain(table: &mut Table, input: &str, matrix: &Csr32Matrix, hops: &[u64]) {
     let rust = AbtmDualTopology::from_csr32(matrix).expect("an accepted matrix");
     let port = Topology::of(&rust);
@@ -133,23 +142,26 @@ fn by_blocks(table: &mut Table, input: &str, matrix: &Csr32Matrix, hops: &[u64])
 
 fn close(table: &mut Table, input: &str, blocks: &Blocks) {
     let nodes = blocks.layout.total_dofs() as usize;
-    for (named, selected) in seeds(nodes) {
+    for (named, selected) in seeds(nodes).into_iter().chain([scattered_seeds(nodes)]) {
         let closed = close_to_field_blocks(&blocks.layout, &selected).expect("a closure");
         let out = RefCell::new(vec![0; closed.words().len()]);
         let answer = port::close(&blocks.lists, &selected, &mut out.borrow_mut());
         assert_eq!((answer.number, &out.borrow()[..]), (0, closed.words()));
-        table.row(
+        let input = format!("{input}, {}", named.replace("seed", "node"));
+        let original = || single(|| (), |()| close_to_field_blocks(&blocks.layout, &selected));
+        let whole = table.row(
             "close_to_field_blocks",
-            &format!("{input}, {}", named.replace("seed", "node")),
+            &input,
             single(
                 || out.borrow_mut(),
                 |mut out| port::close(&blocks.lists, &selected, &mut out),
             ),
-            Some(single(
-                || (),
-                |()| close_to_field_blocks(&blocks.layout, &selected),
-            )),
+            Some(original()),
         );
+        if let Some(inner) = port::inner_close(&blocks.lists, &selected, &out) {
+            let inner = table.row("  without checks", &input, inner, Some(original()));
+            table.checks(whole, inner);
+        }
     }
 }
 

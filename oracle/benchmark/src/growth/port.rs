@@ -247,6 +247,69 @@ pub fn close(layout: &Lists, selected: &DofMask, out: &mut [u64]) -> Answer {
     )
 }
 
+#[cfg(repeated)]
+mod closing {
+    //! Closing by closing after one check.
+
+    use super::*;
+    use crate::rest::without_rest;
+
+    unsafe extern "C" {
+        fn hybit_repeated_closing(
+            kinds: *const u8,
+            kinds_len: usize,
+            ids: *const u64,
+            ids_len: usize,
+            fields: *const u32,
+            fields_len: usize,
+            components: *const u32,
+            components_len: usize,
+            offsets: *const u64,
+            offsets_len: usize,
+            len: usize,
+            words: *const u64,
+            words_len: usize,
+            times: u64,
+            out: *mut u64,
+            out_len: usize,
+        ) -> Answer;
+    }
+
+    pub fn inner_close<'a>(
+        layout: &'a Lists,
+        selected: &'a DofMask,
+        out: &'a RefCell<Vec<u64>>,
+    ) -> Option<Sample<'a>> {
+        Some(without_rest(move |times| {
+            let out = &mut *out.borrow_mut();
+            let answer = on_layout!(
+                hybit_repeated_closing,
+                layout,
+                selected.len(),
+                selected.words().as_ptr(),
+                selected.words().len(),
+                times,
+                out.as_mut_ptr(),
+                out.len()
+            );
+            assert_eq!(answer.number, 0);
+            answer
+        }))
+    }
+}
+
+#[cfg(repeated)]
+pub use closing::inner_close;
+
+#[cfg(not(repeated))]
+pub fn inner_close<'a>(
+    _: &'a Lists,
+    _: &'a DofMask,
+    _: &'a RefCell<Vec<u64>>,
+) -> Option<Sample<'a>> {
+    None
+}
+
 pub fn owners(layout: &Lists, dof_owners: &[u32], ranks: u32, out: &mut [u32]) -> Answer {
     on_layout!(
         hybit_field_block_owners,
