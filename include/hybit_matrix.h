@@ -9,7 +9,22 @@
  * other fields are 0 and every list is as it was. After success the needed part of an output list holds the answer, what is past it is
  * as it was, and the needed part of a scratch list is zero.
  *
- * Nothing is allocated, no state is kept: calls may run in several threads at once on lists of their own.
+ * Nothing is allocated, no state is kept: calls may run in several threads at once on lists of their own. docs/C.md says how long each list
+ * must be and how much stack a call takes.
+ *
+ * The same names mean the same in all calls:
+ *   nrows, ncols, row_ptr, col_idx, values    a matrix by rows: row r has the entries from row_ptr[r] up to row_ptr[r + 1]
+ *   row_word_ptr, row_word_indices, row_masks, structural_nnz
+ *                                             a topology's rows: row r has the words from row_word_ptr[r] up to row_word_ptr[r + 1]; bit b of
+ *                                             row_masks[k] is column 64 * row_word_indices[k] + b; structural_nnz is the number of pairs
+ *   column_nrows, column_ncols, column_..     the same of its columns, each taken as a row: column_nrows is ncols, column_ncols is nrows
+ *   columns, number                           a row of a topology: of its columns side if columns is true, else of its rows side; from 0
+ *   len, words                                a mask: node i is bit i mod 64 of words[i / 64]; (len + 63) / 64 words
+ *   entity_kinds, entity_ids, field_ids, components, offsets
+ *                                             a layout: the four fields of each block, and where each block starts, then the total
+ *   node_count, region_count, words           regions: the words of one mask after the other
+ *   source_ptr, source_indices, source_value_len
+ *                                             a plan: pair p sums the values at source_indices[source_ptr[p]] up to source_ptr[p + 1]
  *
  *   1  a side, mask length, node count or layout total over 1,048,576; entries, a topology's words or pairs, or sources over 16,777,216;
  *      regions over 65,536
