@@ -1,0 +1,149 @@
+/* Where the lists stand during a call.
+ *
+ * END: the list ends where an inaccessible stretch begins, START: it begins where one ends; so a read or a write one element outside
+ * faults. Each place is mapped twice: a list that may only be read is handed over by its read-only view, so that a write to it faults.
+ * HEAP: a list of its own from malloc, for valgrind.
+ */
+#define _GNU_SOURCE
+#include <stdio.h>
+#include <stdlib.h>
+#include <string.h>
+#include <sys/mman.h>
+#include <unistd.h>
+
+#include "fuzz.h"
+
+enum { STRETCH = 16 << 20, SLACK = 256, FILL = 0xa5 };
+
+static enum mode mode;
+static unsigned char *writable[MOST_PARAMETERS];
+static unsigned char *readable[MOST_PARAMETERS];
+
+/* A view of one place, with an inaccessible stretch on both sides. */
+static unsigned char *view(int file, size_t place, int access)
+{
+    unsigned char *all = (unsigned char *)mmap(0, 2 * STRETCH + LIST_BYTES, PROT_NONE, MAP_PRIVATE | MAP_ANONYMOUS | MAP_NORESERVE, -1, 0);
+    if (all == MAP_FAILED)
+        return 0;
+    void *inner = mmap(all + STRETCH, LIST_BYTES, access, MAP_SHARED | MAP_FIXED, file, (off_t)(place * LIST_BYTES));
+    return inner == MAP_FAILED ? 0 : (unsigned char *)inner;
+}
+
+void begin_guard(enum mode chosen)
+{
+    mode = chosen;
+    if (mode == HEAP || writable[0])
+        return;
+    int file = memfd_create("fuzz", 0);
+    if (file < 0 || ftruncate(file, (off_t)MOST_PARAMETERS * LIST_BYTES))
+        abort();
+    for (size_t i = 0; i < MOST_PARAMETERS; i++) {
+        writable[i] = view(file, i, PROT_READ | PROT_WRITE);
+        readable[i] = view(file, i, PROT_READ);
+        if (!writable[i] || !readable[i])
+            abort();
+    }
+}
+
+/* Where the list stands in its place. */
+static size_t offset_of(size_t bytes)
+{
+    return mode == END ? LIST_BYTES - bytes : 0;
+}
+
+/* The free bytes beside the list that are watched, on its unguarded side. */
+static unsigned char *slack_of(size_t place, size_t bytes, size_t *length)
+{
+    size_t rest = LIST_BYTES - bytes;
+    *length = rest < SLACK ? rest : SLACK;
+    return mode == END ? writable[place] + rest - *length : writable[place] + bytes;
+}
+
+static void *placed(size_t place, enum form form, const struct value *v, size_t bytes)
+{
+    size_t at = offset_of(bytes);
+    if (bytes)
+        memcpy(writable[place] + at, v->bytes, bytes);
+    if (form == READ)
+        return readable[place] + at;
+    size_t length;
+    unsigned char *slack = slack_of(place, bytes, &length);
+    memset(slack, FILL, length);
+    return writable[place] + at;
+}
+
+static void *on_heap(const struct value *v, size_t bytes)
+{
+    void *list = malloc(bytes);
+    if (!list)
+        abort();
+    if (bytes)
+        memcpy(list, v->bytes, bytes);
+    return list;
+}
+
+void place(const struct function *f, const struct value *values, struct argument *arguments)
+{
+    for (size_t i = 0; i < f->count; i++) {
+        const struct value *v = values + i;
+        size_t bytes = v->count * f->parameters[i].width;
+        arguments[i].number = v->number;
+        arguments[i].count = v->count;
+        arguments[i].list = 0;
+        if (f->parameters[i].form == NUMBER || (v->null && !bytes))
+            continue;
+        arguments[i].list = mode == HEAP ? on_heap(v, bytes) : placed(i, f->parameters[i].form, v, bytes);
+    }
+}
+
+void release(const struct function *f, struct argument *arguments)
+{
+    for (size_t i = 0; mode == HEAP && i < f->count; i++)
+        free(f->parameters[i].form == NUMBER ? 0 : arguments[i].list);
+}
+
+static const char *beside(const struct function *f, const struct argument *a, size_t i)
+{
+    size_t length;
+    if (mode == HEAP || f->parameters[i].form != LENT || !a[i].list)
+        return 0;
+    const unsigned char *slack = slack_of(i, a[i].count * f->parameters[i].width, &length);
+    for (size_t k = 0; k < length; k++)
+        if (slack[k] != FILL)
+            return "wrote outside a list";
+    return 0;
+}
+
+static const char *unlike_promised(struct outcome o)
+{
+    if (o.flawed)
+        return "a bool that is neither 0 nor 1";
+    if (o.number > 27)
+        return "a number that is not in the table";
+    if (o.number && o.present)
+        return "a refusal with an answer";
+    if ((o.number != 11 && (o.expected || o.actual)) || (o.number == 11 && o.expected == o.actual))
+        return "figures that do not go with the number";
+    if (!o.present && o.rest)
+        return "a field that is not 0 where there is no answer";
+    return 0;
+}
+
+/* What the call did that no call may, or nothing. */
+const char *misuse(const struct function *f, const struct value *values, const struct argument *a, struct outcome o)
+{
+    const char *found = f->plain ? 0 : unlike_promised(o);
+    for (size_t i = 0; !found && i < f->count; i++) {
+        size_t bytes = a[i].count * f->parameters[i].width;
+        if (f->parameters[i].form == NUMBER || !a[i].list)
+            continue;
+        bool same = !bytes || !memcmp(a[i].list, values[i].bytes, bytes);
+        if (!same && f->parameters[i].form == READ)
+            found = "changed a list that it may only read";
+        else if (!same && o.number)
+            found = "changed a list and refused";
+        else
+            found = beside(f, a, i);
+    }
+    return found;
+}
