@@ -76,7 +76,7 @@ static void random_list(struct value *v, size_t width)
 static void other_list(const struct function *f, struct value *values, size_t i)
 {
     size_t j = below(f->count), width = f->parameters[i].width;
-    if (f->parameters[j].form == NUMBER || f->parameters[j].width != width)
+    if (f->parameters[j].form == NUMBER || f->parameters[j].width != width || values[j].huge)
         return;
     const struct value from = values[j];
     values[i].count = 0;
@@ -106,18 +106,31 @@ static void spoil_list(const struct function *f, struct value *values, size_t i)
     }
 }
 
+/* About as many elements as 01's limit of entries. */
+static void huge_list(struct value *v)
+{
+    v->bytes = 0;
+    v->huge = true;
+    v->count = HUGE_COUNT - below(3);
+}
+
 static uint64_t within(const struct parameter *p, uint64_t number)
 {
     return p->flag ? number & 1 : p->width < 8 ? number & (((uint64_t)1 << 8 * p->width) - 1) : number;
 }
 
-void spoil(const struct function *f, struct value *values)
+void spoil(const struct function *f, struct value *values, bool small)
 {
     size_t i = below(f->count);
-    if (!f->count)
+    bool one = false;
+    for (size_t k = 0; k < f->count; k++)
+        one |= values[k].huge;
+    if (!f->count || values[i].huge)
         return;
     if (f->parameters[i].form == NUMBER)
         values[i].number = within(f->parameters + i, odd_number(values[i].number));
+    else if (!one && !small && !below(300))
+        huge_list(values + i);
     else
         spoil_list(f, values, i);
 }

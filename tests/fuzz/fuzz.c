@@ -33,9 +33,11 @@ static struct {
 static const struct function *volatile now;
 static volatile uint64_t now_case, now_call;
 
+enum { MOST_FUNCTIONS = 256 };
+
 static struct tally {
     uint64_t calls, accepted, none, refused[28];
-} tallies[128];
+} tallies[MOST_FUNCTIONS];
 
 static void report(const char *what)
 {
@@ -92,7 +94,7 @@ static void show_values(const struct function *f, const struct value *values)
             continue;
         }
         printf("  %s: %zu of %zu bits%s:", p->name, values[i].count, 8 * p->width, values[i].null && !values[i].count ? ", null" : "");
-        for (size_t k = 0; k < values[i].count && k < 200; k++) {
+        for (size_t k = 0; k < values[i].count && k < 200 && !values[i].huge; k++) {
             uint64_t element = 0;
             memcpy(&element, values[i].bytes + k * p->width, p->width);
             printf(p->form == LENT ? " %llx" : " %llu", (unsigned long long)element);
@@ -164,7 +166,7 @@ static void run_case(const struct function *all, size_t count, uint64_t number)
     if (kind >= 96)
         arbitrary(all + which, values);
     for (uint64_t faults = kind < 45 ? 0 : kind < 80 ? 1 : 2 + below(3); faults; faults--)
-        spoil(all + which, values);
+        spoil(all + which, values, options.mode == HEAP);
     bool accepted = run(all + which, values, tallies + which);
     if (accepted && all[which].count && chance(40))
         shorten(all + which, values, tallies + which);
@@ -308,9 +310,18 @@ static bool read_options(int count, char **words)
     return true;
 }
 
+/* The tables of this program hold every function and its parameters. */
+static bool fits(void)
+{
+    bool all = function_count <= MOST_FUNCTIONS;
+    for (size_t k = 0; k < function_count; k++)
+        all &= functions[k].count <= MOST_PARAMETERS;
+    return all;
+}
+
 int main(int count, char **words)
 {
-    if (!read_options(count, words)) {
+    if (!read_options(count, words) || !fits()) {
         fputs(usage, stderr);
         return 2;
     }

@@ -50,9 +50,11 @@ struct value {
     unsigned char *bytes;
     size_t count;
     bool null; /* an empty list without an address */
+    bool huge; /* a list of zeros without a copy: more elements than LIST_BYTES hold */
 };
 
-enum { MOST_PARAMETERS = 40, LIST_BYTES = 1 << 20 };
+/* A list's bytes at most; a huge list's elements at most: a little over 01's limit of entries. */
+enum { MOST_PARAMETERS = 40, LIST_BYTES = 1 << 20, HUGE_COUNT = (1 << 24) + 1 };
 
 enum mode { END, START, HEAP };
 
@@ -74,7 +76,7 @@ void release(const struct function *f, struct argument *arguments);
 void plausible(const struct function *f, struct value *values, bool small);
 
 /* faults.c: what is wrong with them. */
-void spoil(const struct function *f, struct value *values);
+void spoil(const struct function *f, struct value *values, bool small);
 void arbitrary(const struct function *f, struct value *values);
 
 /* wrong.c: functions that do what no call may, to see that it is reported. */

@@ -19,14 +19,21 @@ static enum mode mode;
 static unsigned char *writable[MOST_PARAMETERS];
 static unsigned char *readable[MOST_PARAMETERS];
 
-/* A view of one place, with an inaccessible stretch on both sides. */
-static unsigned char *view(int file, size_t place, int access)
+/* One huge list of each kind: a call gets at most one. Page-aligned, so that a list can end at the guard. */
+static unsigned char *huge_writable, *huge_readable;
+enum { HUGE_BYTES = (HUGE_COUNT * 8 + 4095) / 4096 * 4096 };
+
+/* Mapped memory with an inaccessible stretch on both sides: of the file, or if there is none zeros. */
+static unsigned char *view(int file, off_t from, size_t bytes, int access)
 {
-    unsigned char *all = (unsigned char *)mmap(0, 2 * STRETCH + LIST_BYTES, PROT_NONE, MAP_PRIVATE | MAP_ANONYMOUS | MAP_NORESERVE, -1, 0);
+    int fresh = MAP_PRIVATE | MAP_ANONYMOUS | MAP_NORESERVE;
+    unsigned char *all = (unsigned char *)mmap(0, 2 * STRETCH + bytes, PROT_NONE, fresh, -1, 0);
     if (all == MAP_FAILED)
-        return 0;
-    void *inner = mmap(all + STRETCH, LIST_BYTES, access, MAP_SHARED | MAP_FIXED, file, (off_t)(place * LIST_BYTES));
-    return inner == MAP_FAILED ? 0 : (unsigned char *)inner;
+        abort();
+    void *inner = mmap(all + STRETCH, bytes, access, (file < 0 ? fresh : MAP_SHARED) | MAP_FIXED, file, from);
+    if (inner == MAP_FAILED)
+        abort();
+    return (unsigned char *)inner;
 }
 
 void begin_guard(enum mode chosen)
@@ -38,11 +45,11 @@ void begin_guard(enum mode chosen)
     if (file < 0 || ftruncate(file, (off_t)MOST_PARAMETERS * LIST_BYTES))
         abort();
     for (size_t i = 0; i < MOST_PARAMETERS; i++) {
-        writable[i] = view(file, i, PROT_READ | PROT_WRITE);
-        readable[i] = view(file, i, PROT_READ);
-        if (!writable[i] || !readable[i])
-            abort();
+        writable[i] = view(file, (off_t)(i * LIST_BYTES), LIST_BYTES, PROT_READ | PROT_WRITE);
+        readable[i] = view(file, (off_t)(i * LIST_BYTES), LIST_BYTES, PROT_READ);
     }
+    huge_writable = view(-1, 0, HUGE_BYTES, PROT_READ | PROT_WRITE);
+    huge_readable = view(-1, 0, HUGE_BYTES, PROT_READ);
 }
 
 /* Where the list stands in its place. */
@@ -72,6 +79,11 @@ static void *placed(size_t place, enum form form, const struct value *v, size_t 
     return writable[place] + at;
 }
 
+static void *huge_placed(enum form form, size_t bytes)
+{
+    return (form == READ ? huge_readable : huge_writable) + (mode == END ? HUGE_BYTES - bytes : 0);
+}
+
 static void *on_heap(const struct value *v, size_t bytes)
 {
     void *list = malloc(bytes);
@@ -92,7 +104,8 @@ void place(const struct function *f, const struct value *values, struct argument
         arguments[i].list = 0;
         if (f->parameters[i].form == NUMBER || (v->null && !bytes))
             continue;
-        arguments[i].list = mode == HEAP ? on_heap(v, bytes) : placed(i, f->parameters[i].form, v, bytes);
+        enum form form = f->parameters[i].form;
+        arguments[i].list = v->huge ? huge_placed(form, bytes) : mode == HEAP ? on_heap(v, bytes) : placed(i, form, v, bytes);
     }
 }
 
@@ -135,7 +148,7 @@ const char *misuse(const struct function *f, const struct value *values, const s
     const char *found = f->plain ? 0 : unlike_promised(o);
     for (size_t i = 0; !found && i < f->count; i++) {
         size_t bytes = a[i].count * f->parameters[i].width;
-        if (f->parameters[i].form == NUMBER || !a[i].list)
+        if (f->parameters[i].form == NUMBER || !a[i].list || values[i].huge)
             continue;
         bool same = !bytes || !memcmp(a[i].list, values[i].bytes, bytes);
         if (!same && f->parameters[i].form == READ)
