@@ -18,6 +18,11 @@ mod raw;
 #[allow(clippy::too_many_arguments)]
 pub mod calls;
 
+// The README's example is compiled with the tests.
+#[cfg(doctest)]
+#[doc = include_str!("../README.md")]
+mod readme {}
+
 mod lend;
 
 mod csr32;

@@ -1,5 +1,8 @@
 //! Small matrices and layouts, as document 01 writes them.
 
+// Not every test uses all of them.
+#![allow(dead_code)]
+
 use hybit_matrix::{Csr32Matrix, DofBlock, DofEntityKind, DofMask, FieldAwareDofLayout, Refusal};
 
 /// A square matrix of entries that are sorted by row.
