@@ -1,236 +1,208 @@
-//! Measuring two sides of a row in turn.
+//! Taking the samples of a row: port and Rust in turn.
 
 use std::hint::black_box;
+use std::mem::needs_drop;
+use std::sync::OnceLock;
 use std::time::{Duration, Instant};
 
-/// A row is measured for about so long, and at most so often; a slow one for
-/// longer, to have a few samples.
-const ROW_TIME: Duration = Duration::from_millis(1_500);
-const MOST: usize = 51;
-const SLOW_ROW_TIME: Duration = Duration::from_secs(5);
-const FEW: usize = 3;
+use hybit_port::Answer;
 
-/// A sample of several calls takes at least so long, so that the clock's own
-/// time and its steps do not count.
-pub const SAMPLE_TIME: Duration = Duration::from_millis(1);
-
-/// A sample of calls that follow one another takes at least so long.
-const WARM_TIME: Duration = Duration::from_millis(100);
-
-/// Takes one sample: the time of one call in microseconds.
-pub type Sample<'a> = Box<dyn FnMut() -> f64 + 'a>;
-
-/// One call a sample. What it consumes is made before the clock starts, and
-/// what it returns is dropped after the clock has stopped.
-pub fn single<'a, I, O>(
-    mut prepare: impl FnMut() -> I + 'a,
-    mut work: impl FnMut(I) -> O + 'a,
-) -> Sample<'a> {
-    Box::new(move || {
-        let input = black_box(prepare());
-        let start = Instant::now();
-        let output = black_box(work(input));
-        let time = start.elapsed();
-        drop(output);
-        microseconds(time)
-    })
+/// How long and how often a row is measured.
+#[derive(Clone, Copy)]
+pub struct Effort {
+    /// A row is measured for about so long, in any case `few` times and at most
+    /// `most` times.
+    pub row: Duration,
+    pub few: usize,
+    pub most: usize,
+    /// A sample takes at least so long, so that the clock's steps do not count.
+    pub sample: Duration,
 }
+
+pub const WHOLE: Effort = Effort {
+    row: Duration::from_millis(300),
+    few: 3,
+    most: 51,
+    sample: Duration::from_millis(1),
+};
+
+/// To see that every row works.
+pub const SHORT: Effort = Effort {
+    row: Duration::ZERO,
+    few: 3,
+    most: 3,
+    sample: Duration::from_micros(100),
+};
+
+/// Takes one sample of at least the given time: the time of one call in
+/// microseconds.
+pub type Sample<'a> = Box<dyn FnMut(Duration) -> f64 + 'a>;
 
 /// As many calls a sample as fill its time. Each gets its number, counted
 /// through all samples, to choose another operand each time.
-pub fn repeated<'a, O>(mut work: impl FnMut(usize) -> O + 'a) -> Sample<'a> {
-    let mut calls = 1;
+pub fn calls<'a, O>(work: impl FnMut(usize) -> O + 'a) -> Sample<'a> {
+    calls_on(|number| number, work)
+}
+
+/// The same for calls that consume something, which is made while the clock
+/// stands.
+pub fn calls_on<'a, I, O>(
+    mut prepare: impl FnMut(usize) -> I + 'a,
+    mut work: impl FnMut(I) -> O + 'a,
+) -> Sample<'a> {
     let mut number = 0;
-    Box::new(move || {
-        loop {
-            let start = Instant::now();
-            for _ in 0..calls {
-                black_box(work(black_box(number)));
-                number += 1;
-            }
-            let time = start.elapsed();
-            if time >= SAMPLE_TIME {
-                return microseconds(time) / calls as f64;
-            }
+    Box::new(move |at_least| {
+        let mut time = Duration::ZERO;
+        let mut calls = 1;
+        let mut made = 0.0;
+        while time < at_least || made == 0.0 {
+            time += stretch(calls, &mut number, &mut prepare, &mut work);
+            made += calls as f64;
             calls *= 2;
         }
+        microseconds(time) / made
     })
 }
 
-/// The mean of calls that follow one another, after one that is not counted;
-/// what each returns is dropped while the clock stands.
-pub fn warm<'a, O>(mut work: impl FnMut() -> O + 'a) -> Sample<'a> {
-    Box::new(move || {
+/// The mean of calls after one that is not counted: each finds what the one
+/// before it has left in the caches, as work that is made many times does.
+pub fn calls_in_a_row<'a, O>(mut work: impl FnMut() -> O + 'a) -> Sample<'a> {
+    const SAMPLES: u32 = 10;
+    Box::new(move |at_least| {
         drop(black_box(work()));
         let mut time = Duration::ZERO;
-        let mut calls = 0;
-        while time < WARM_TIME {
-            let start = Instant::now();
-            let output = black_box(work());
-            time += start.elapsed();
-            drop(output);
-            calls += 1;
+        let mut made = 0.0;
+        while time < SAMPLES * at_least {
+            time += stretch(1, &mut 0, &mut |_| (), &mut |()| work());
+            made += 1.0;
         }
-        microseconds(time) / f64::from(calls)
+        microseconds(time) / made
     })
 }
 
-pub fn microseconds(time: Duration) -> f64 {
+/// The time of so many calls. The clock stands while what a call consumes is
+/// made and what it returns is dropped; where there is nothing to drop it runs
+/// through.
+fn stretch<I, O>(
+    calls: usize,
+    number: &mut usize,
+    prepare: &mut impl FnMut(usize) -> I,
+    work: &mut impl FnMut(I) -> O,
+) -> Duration {
+    let stands = needs_drop::<I>() || needs_drop::<O>();
+    let turns = if stands { calls } else { 1 };
+    let mut time = Duration::ZERO;
+    for _ in 0..turns {
+        let first = black_box(prepare(*number));
+        let start = Instant::now();
+        let output = black_box(work(first));
+        *number += 1;
+        for _ in 1..calls / turns {
+            black_box(work(black_box(prepare(*number))));
+            *number += 1;
+        }
+        time += start.elapsed().saturating_sub(clock());
+        drop(output);
+    }
+    time
+}
+
+/// What looking at the clock twice takes.
+fn clock() -> Duration {
+    static CLOCK: OnceLock<Duration> = OnceLock::new();
+    *CLOCK.get_or_init(|| {
+        let looks = (0..10_000).map(|_| Instant::now().elapsed());
+        looks.min().unwrap_or_default()
+    })
+}
+
+/// The time of one piece of work that a call does many times after it has done
+/// something else once, the checks: 1 + N pieces and the rest less 1 piece and
+/// the rest, divided by N. N is chosen so that the pieces take as long as the
+/// rest, which would drown them otherwise.
+pub fn without_rest<'a>(mut work: impl FnMut(u64) -> Answer + 'a) -> Sample<'a> {
+    let mut work = move |times| assert_eq!(work(times).number, 0, "refused");
+    let mut pieces = None;
+    Box::new(move |at_least| {
+        let one = timed(|| work(1));
+        let pieces = *pieces.get_or_insert_with(|| enough(&mut work, one, at_least));
+        let gained = timed(|| work(1 + pieces)).saturating_sub(one);
+        microseconds(gained) / pieces as f64
+    })
+}
+
+/// So many pieces take as long as the rest.
+fn enough<O>(work: &mut impl FnMut(u64) -> O, rest: Duration, at_least: Duration) -> u64 {
+    const MOST_PIECES: u64 = 1 << 20;
+    let mut pieces = 1;
+    while pieces < MOST_PIECES {
+        let gained = timed(|| work(1 + pieces)).saturating_sub(rest);
+        if gained >= rest.max(at_least) {
+            break;
+        }
+        // A smaller gain may be the rest's own difference from call to call.
+        if gained > rest / 2 && gained > at_least / 2 {
+            let times = 1.25 * rest.max(at_least).as_secs_f64() / gained.as_secs_f64();
+            return (pieces as f64 * times).ceil() as u64;
+        }
+        pieces *= 16;
+    }
+    pieces
+}
+
+fn timed<O>(work: impl FnOnce() -> O) -> Duration {
+    let start = Instant::now();
+    black_box(work());
+    start.elapsed()
+}
+
+fn microseconds(time: Duration) -> f64 {
     time.as_secs_f64() * 1e6
 }
 
-pub struct Table {
-    start: Instant,
+/// What the samples of one side say.
+#[derive(Clone, Copy)]
+pub struct Times {
+    /// In microseconds.
+    pub median: f64,
+    /// Half the distance between the quartiles, as a part of the median.
+    pub spread: f64,
+    pub samples: usize,
 }
 
-impl Table {
-    pub fn new() -> Self {
-        println!("One call in microseconds, the median of several samples, port and Rust in turn.");
-        println!(
-            "On a built layout the port's time includes its check of the whole layout at each"
-        );
-        println!(
-            "call; the Rust checks a layout only once, in `new`. (-: the Rust has no such call.)"
-        );
-        println!(
-            "`validate` of both sides: the port also checks that the columns are the transpose of"
-        );
-        println!(
-            "the rows. Memory in megabytes: the port works in the lent lists alone; the Rust's"
-        );
-        println!(
-            "figures are the most that it holds while it builds, and what is left of that then."
-        );
-        println!(
-            "`without checks`: the port's work many times after one check, less the work once"
-        );
-        println!("after one check; the Rust checks nothing but the sizes there.");
-        println!(
-            "`prepare_region`: the Rust builds its topology and prepares one region on it, and both"
-        );
-        println!(
-            "allocate in that time; the port's lists are lent, and it checks the layout as well."
-        );
-        println!();
-        println!(
-            "{:<28} {:<46} {:>12} {:>12} {:>12} {:>7}",
-            "call", "input", "port", "Rust", "ratio", "samples"
-        );
+impl Times {
+    fn of(mut times: Vec<f64>) -> Self {
+        times.sort_by(f64::total_cmp);
+        let last = times.len() - 1;
+        let median = times[times.len() / 2];
+        let between = times[last - last / 4] - times[last / 4];
         Self {
-            start: Instant::now(),
+            median,
+            spread: if median > 0.0 {
+                between / 2.0 / median
+            } else {
+                0.0
+            },
+            samples: times.len(),
         }
     }
-
-    /// Measures and prints one row; the port's time.
-    pub fn row(&mut self, call: &str, input: &str, port: Sample, rust: Option<Sample>) -> f64 {
-        let measured = Measured::of(port, rust);
-        println!("{}", measured.shown(call, input));
-        measured.port
-    }
-
-    /// The same, and beside it how much of the Rust's time it should take at
-    /// most.
-    pub fn row_within(
-        &mut self,
-        target: f64,
-        call: &str,
-        input: &str,
-        port: Sample,
-        rust: Sample,
-    ) -> f64 {
-        let measured = Measured::of(port, Some(rust));
-        let met = measured.ratio().is_some_and(|ratio| ratio <= target);
-        println!(
-            "{}  at most {target:.1}: {}",
-            measured.shown(call, input),
-            if met { "met" } else { "over" }
-        );
-        measured.port
-    }
-
-    /// Prints under a row what the lent lists take, and the Rust at most and in
-    /// the end.
-    pub fn memory(&mut self, lent: usize, (most, left): (usize, usize)) {
-        let [lent, most, left] = [lent, most, left].map(|bytes| bytes as f64 / 1e6);
-        println!(
-            "{:<28} lent lists {lent:.1}; the Rust at most {most:.1}, then {left:.1}",
-            "  memory"
-        );
-    }
-
-    /// Prints under two rows which part of the first one's time the second one
-    /// lacks, and how much that is.
-    pub fn checks(&mut self, whole: f64, inner: f64) {
-        let part = 100.0 * (whole - inner) / whole;
-        println!(
-            "{:<28} {:.3} of the port's time, {part:.1} %",
-            "  checks",
-            whole - inner
-        );
-    }
-
-    /// Prints under a row of work without checks the Rust's time where its calls
-    /// follow one another, as the port's do there: by this the target is judged.
-    pub fn in_a_row(&mut self, target: f64, port: f64, mut rust: Sample) {
-        let rust = median((0..FEW).map(|_| rust()).collect());
-        let ratio = port / rust;
-        println!(
-            "{:<28} the Rust's calls in a row {rust:.3}, ratio {ratio:.2}  at most {target:.1}: {}",
-            "  warm",
-            if ratio <= target { "met" } else { "over" }
-        );
-    }
-
-    pub fn finish(&self) {
-        println!();
-        println!(
-            "benchmark: {:.1} s in all",
-            self.start.elapsed().as_secs_f64()
-        );
-    }
 }
 
-/// The medians of one row.
-struct Measured {
-    port: f64,
-    rust: Option<f64>,
-    samples: usize,
+/// Samples both sides in turn.
+pub fn in_turn(
+    effort: Effort,
+    mut port: Sample,
+    mut rust: Option<Sample>,
+) -> (Times, Option<Times>) {
+    let (mut ours, mut theirs) = (vec![], vec![]);
+    let start = Instant::now();
+    while wants_more(effort, ours.len(), start) {
+        ours.push(port(effort.sample));
+        theirs.extend(rust.as_mut().map(|rust| rust(effort.sample)));
+    }
+    (Times::of(ours), rust.map(|_| Times::of(theirs)))
 }
 
-impl Measured {
-    fn of(mut port: Sample, mut rust: Option<Sample>) -> Self {
-        let start = Instant::now();
-        let mut port_times = vec![port()];
-        let mut rust_times: Vec<f64> = rust.iter_mut().map(|rust| rust()).collect();
-        while wants_more(port_times.len(), start.elapsed()) {
-            port_times.push(port());
-            rust_times.extend(rust.as_mut().map(|rust| rust()));
-        }
-        Self {
-            samples: port_times.len(),
-            port: median(port_times),
-            rust: rust.is_some().then(|| median(rust_times)),
-        }
-    }
-
-    fn ratio(&self) -> Option<f64> {
-        self.rust.map(|rust| self.port / rust)
-    }
-
-    fn shown(&self, call: &str, input: &str) -> String {
-        let or_none = |shown: Option<String>| shown.unwrap_or("-".into());
-        let rust = or_none(self.rust.map(|rust| format!("{rust:.3}")));
-        let ratio = or_none(self.ratio().map(|ratio| format!("{ratio:.2}")));
-        let Self { port, samples, .. } = self;
-        format!("{call:<28} {input:<46} {port:>12.3} {rust:>12} {ratio:>12} {samples:>7}")
-    }
-}
-
-fn wants_more(samples: usize, time: Duration) -> bool {
-    samples < MOST && time < ROW_TIME || samples < FEW && time < SLOW_ROW_TIME
-}
-
-fn median(mut times: Vec<f64>) -> f64 {
-    times.sort_by(f64::total_cmp);
-    times[times.len() / 2]
+fn wants_more(effort: Effort, samples: usize, start: Instant) -> bool {
+    samples < effort.few || samples < effort.most && start.elapsed() < effort.row
 }

@@ -44,14 +44,14 @@ fn count(bytes: isize) {
     }
 }
 
-/// The most that was held at a time beyond what was held before, and what the
-/// result holds. A list that grows counts by its growth, moved or not.
-pub fn taken<O>(work: impl FnOnce() -> O) -> (usize, usize) {
+/// The most bytes that were held at a time beyond what was held before. A list
+/// that grows counts by its growth, moved or not.
+pub fn taken<O>(work: impl FnOnce() -> O) -> usize {
     HELD.store(0, Relaxed);
     MOST.store(0, Relaxed);
     COUNTS.store(true, Relaxed);
     let result = work();
     COUNTS.store(false, Relaxed);
     drop(result);
-    (MOST.load(Relaxed) as usize, HELD.load(Relaxed) as usize)
+    MOST.load(Relaxed) as usize
 }
