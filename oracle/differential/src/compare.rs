@@ -5,6 +5,7 @@ use std::process::exit;
 
 use crate::answer::Answer;
 use crate::groups::{Call, Group, functions, place};
+use crate::typed;
 
 /// Document 01's numbers go up to 27.
 const NUMBERS: usize = 28;
@@ -81,6 +82,9 @@ impl<'groups> Tally<'groups> {
         let expected = expected(&call);
         let got = got(&call);
         if let Some(report) = difference(&call, &expected, &got) {
+            fail(&report);
+        }
+        if let Some(report) = typed::difference(&call, &expected) {
             fail(&report);
         }
         let place = place(self.groups, &call).expect("only these groups are compared");

@@ -4,15 +4,15 @@
 //! group is a module below this one whose `Call` has both, and a line in
 //! `groups!`.
 
-mod csr32;
-mod growth;
-mod job;
-mod layout;
-mod local;
-mod mask;
-mod prepared;
-mod topology;
-mod word;
+pub mod csr32;
+pub mod growth;
+pub mod job;
+pub mod layout;
+pub mod local;
+pub mod mask;
+pub mod prepared;
+pub mod topology;
+pub mod word;
 
 pub use job::{answer_text as job_answer, recorded as recorded_jobs};
 

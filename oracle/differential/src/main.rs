@@ -27,6 +27,7 @@ mod port;
 mod record;
 mod rng;
 mod self_test;
+mod typed;
 
 use std::env;
 use std::io;

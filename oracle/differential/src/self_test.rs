@@ -3,6 +3,10 @@
 use crate::answer::VALUES;
 use crate::compare::{Outcome, difference, expected, fail, got};
 use crate::groups::Call;
+use crate::typed;
+
+/// So many of the spoiled outcomes differ in the answer, the others in a list.
+const ANSWERS: usize = 4 + VALUES;
 
 /// Takes the recorded calls, which cover every function and every number, and
 /// spoils each part of each expected answer and each element of each list.
@@ -25,10 +29,44 @@ pub fn run(recorded: &[Call]) {
         }
     }
     println!("self-test: {wrong} wrong expectations, {wrong} reported");
+    run_typed(recorded);
+}
+
+/// The same of the typed layer, on calls that are accepted. It reports every
+/// wrong answer, and every wrong element of a list that is part of its own
+/// answer; it has no scratch, and nothing past an answer.
+fn run_typed(recorded: &[Call]) {
+    let mut answers = 0;
+    let mut elements = 0;
+    for call in recorded {
+        let right = expected(call);
+        if let Some(report) = typed::difference(call, &right) {
+            fail(&report);
+        }
+        if right.answer.number != 0 {
+            continue;
+        }
+        for (place, spoiled) in spoiled(&right).iter().enumerate() {
+            let reported = typed::difference(call, spoiled).is_some();
+            match place < ANSWERS {
+                true if !reported => {
+                    let (function, _) = call.function();
+                    fail(&format!(
+                        "self-test: a wrong expectation of {function} was not reported of the typed layer"
+                    ));
+                }
+                true => answers += 1,
+                false => elements += usize::from(reported),
+            }
+        }
+    }
+    println!(
+        "self-test: typed layer, {answers} wrong answers and {elements} wrong elements reported"
+    );
 }
 
 fn spoiled(right: &Outcome) -> Vec<Outcome> {
-    let mut all = vec![right.clone(); 4 + VALUES];
+    let mut all = vec![right.clone(); ANSWERS];
     all[0].answer.number += 1;
     all[1].answer.present ^= true;
     all[2].answer.expected += 1;

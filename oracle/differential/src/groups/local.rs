@@ -23,6 +23,7 @@ mod values;
 pub use cases::{of_entries, square, valued};
 pub use expected::opened as opened_matrix;
 pub use rooms::plan_lent;
+pub use runs::Run;
 pub use small::each_matrix;
 
 use super::csr32::Matrix;
@@ -33,7 +34,6 @@ use crate::answer::Answer;
 use crate::parts::List::{F64, U32, U64};
 use crate::parts::Parts;
 use crate::rng::Rng;
-use runs::Run;
 
 /// The lists that a pattern is written to.
 #[derive(Clone, PartialEq)]

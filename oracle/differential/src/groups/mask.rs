@@ -9,7 +9,7 @@ mod random;
 mod small;
 
 pub use cases::{full, of_index, random_right};
-pub use expected::{check_words, words_needed};
+pub use expected::{check_mask, check_words, words_needed};
 
 use super::{Function, GroupCall, GroupCalls};
 use crate::answer::Answer;

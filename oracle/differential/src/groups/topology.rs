@@ -15,7 +15,7 @@ mod small;
 mod wide;
 
 pub use cases::{Pair, matrix as matrix_of_rows, pairs, topology as of_pairs};
-pub use expected::accepted_topology;
+pub use expected::{accepted_side, accepted_topology};
 pub use matrices::{ORDERS, Order, ordered, row as ordered_row};
 pub use random::break_side;
 pub use rooms::{both_lent, near, of_both};
