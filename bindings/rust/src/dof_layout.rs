@@ -139,10 +139,9 @@ impl FieldAwareDofLayout {
         })
     }
 
-    /// How many nodes there are.
+    /// How many nodes there are: the last offset.
     pub fn total_dofs(&self) -> u64 {
-        let answer = ask!(hybit_layout_total_dofs(layout self));
-        answer.expect(ACCEPTED).value
+        *self.offsets.last().expect(ACCEPTED)
     }
 
     pub fn blocks(&self) -> &[DofBlock] {
@@ -170,13 +169,13 @@ impl FieldAwareDofLayout {
         &self.offsets
     }
 
-    /// The nodes of a block; none past the last.
+    /// The nodes of a block, from its offset to the next; none past the last.
     pub fn block_range(&self, index: usize) -> Option<Range<u64>> {
-        let answer = ask!(hybit_layout_block_range(layout self, index as u64)).expect(ACCEPTED);
-        answer.present.then_some(answer.first..answer.second)
+        let end = *self.offsets.get(index.checked_add(1)?)?;
+        Some(self.offsets[index]..end)
     }
 
-    /// The block of a node; none past the last.
+    /// The block of a node; none past the last. The port checks the whole layout before it looks.
     pub fn locate(&self, dof: u64) -> Option<DofAddress> {
         let answer = ask!(hybit_layout_locate(layout self, dof)).expect(ACCEPTED);
         answer.present.then_some(DofAddress {

@@ -1,8 +1,9 @@
 //! The proved region cutter for Rust programs, under the names and types of the crate that it replaces.
 //!
-//! Each type holds its lists, and holds only lists that the port has accepted. Each answer is that of a call of the
-//! port, whose promise is proved; this crate allocates the lists that a call needs and hands them over. A refusal
-//! comes back as [`Refusal`]. The calls themselves, on lists that the caller lends, are in [`calls`].
+//! Each type holds its lists, and holds only lists that the port has accepted. Accessors read them; every other answer
+//! is that of a call of the port, whose promise is proved. This crate allocates the lists that a call needs and hands
+//! them over. A refusal comes back as [`Refusal`]. The calls themselves, on lists that the caller lends, are in
+//! [`calls`].
 //!
 //! Three things are found here and not by the port: which word of a row holds a column ([`AbtmTopologyRow`]), two of
 //! the statistics of a plan's pattern ([`prepare_local_numeric_plan`]), and ratios of statistics.

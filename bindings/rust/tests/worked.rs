@@ -153,3 +153,18 @@ fn rows() {
     assert_eq!(topology.column(3).unwrap().select(1), Some(5));
     assert_eq!(topology.row(200).unwrap_err().number, 13);
 }
+
+#[test]
+fn layouts() {
+    let layout = blocks(&[2, 1]).unwrap();
+    assert_eq!(layout.total_dofs(), 3);
+    let ranges = [0, 1, 2, usize::MAX].map(|block| layout.block_range(block));
+    assert_eq!(ranges, [Some(0..2), Some(2..3), None, None]);
+    let component = |dof| layout.locate(dof).map(|at| (at.block_index, at.component));
+    assert_eq!(
+        [0, 1, 2, 3].map(component),
+        [Some((0, 0)), Some((0, 1)), Some((1, 0)), None]
+    );
+    assert_eq!(layout.field_mask(0).unwrap().indices(), [0, 1, 2]);
+    assert!(layout.field_mask(1).unwrap().is_empty());
+}
