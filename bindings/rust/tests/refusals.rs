@@ -135,47 +135,38 @@ fn of_topologies() {
     check(one.row(1), 13, "index or rank offset out of range");
 }
 
+/// 11, the one number with figures.
+fn wrong_length<T>(answer: Result<T, Refusal>, expected: u64, actual: u64) {
+    let sentence = "a mask, owner list, value list or block list has the wrong length";
+    let refusal = answer.err().expect("a refusal");
+    assert_eq!((refusal.expected, refusal.actual), (expected, actual));
+    let shown = format!("refused by 11: {sentence} (expected {expected}, actual {actual})");
+    assert_eq!(refusal.to_string(), shown);
+    check(Err::<(), _>(refusal), 11, sentence);
+}
+
 #[test]
 fn of_lengths() {
-    let sentence = "a mask, owner list, value list or block list has the wrong length";
-    let figures = |answer: Result<(), Refusal>, expected: u64, actual: u64| {
-        let refusal = answer.unwrap_err();
-        assert_eq!((refusal.expected, refusal.actual), (expected, actual));
-        let shown = format!("refused by 11: {sentence} (expected {expected}, actual {actual})");
-        assert_eq!(refusal.to_string(), shown);
-        check(answer, 11, sentence);
-    };
     let (topology, layout) = (built(&chain()), blocks(&[2, 1]).unwrap());
     let four = mask(4, &[3]);
-    figures(grow_undirected_region(&topology, &four, 1).map(drop), 3, 4);
-    figures(
-        grow_field_aware_region(&topology, &layout, &four, 1).map(drop),
-        3,
-        4,
-    );
-    figures(prepare_region(&chain(), &layout, &four, 1).map(drop), 3, 4);
-    figures(
-        extract_local_submatrix_pattern(&topology, &four).map(drop),
-        3,
-        4,
-    );
-    figures(DofMask::from_words(65, vec![0]).map(drop), 2, 1);
-    figures(mask(3, &[]).union_assign(&four), 3, 4);
-    figures(field_block_owners(&layout, &[0], 1).map(drop), 3, 1);
-    figures(bytes([1, 1], &[0, 1, 2], &[0, 1, 2]).map(drop), 2, 3);
+    wrong_length(grow_undirected_region(&topology, &four, 1), 3, 4);
+    wrong_length(grow_field_aware_region(&topology, &layout, &four, 1), 3, 4);
+    wrong_length(prepare_region(&chain(), &layout, &four, 1), 3, 4);
+    wrong_length(extract_local_submatrix_pattern(&topology, &four), 3, 4);
+    wrong_length(DofMask::from_words(65, vec![0]), 2, 1);
+    wrong_length(mask(3, &[]).union_assign(&four), 3, 4);
+    wrong_length(field_block_owners(&layout, &[0], 1), 3, 1);
+    wrong_length(bytes([1, 1], &[0, 1, 2], &[0, 1, 2]), 2, 3);
     // Both have one word: the flat list alone would not show it.
-    figures(
-        region_multiplicity(3, &[mask(3, &[]), four]).map(drop),
-        3,
-        4,
-    );
-    let plan = prepare_local_numeric_plan(&topology, &chain(), &mask(3, &[0])).unwrap();
-    figures(plan.gather_values(&[1.0]).map(drop), 2, 1);
-    check(
-        plan.gather_values(&[1.0, f64::NAN]),
-        8,
-        "any value not finite",
-    );
+    wrong_length(region_multiplicity(3, &[mask(3, &[]), four]), 3, 4);
+}
+
+#[test]
+fn of_values() {
+    let plan = prepare_local_numeric_plan(&built(&chain()), &chain(), &mask(3, &[0])).unwrap();
+    wrong_length(plan.gather_values(&[1.0]), 2, 1);
+    let not_finite = plan.gather_values(&[1.0, f64::NAN]);
+    check(not_finite, 8, "any value not finite");
 }
 
 #[test]
