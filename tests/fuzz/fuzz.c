@@ -103,8 +103,32 @@ static void show_values(const struct function *f, const struct value *values)
     }
 }
 
+static void show_outcome(struct outcome o)
+{
+    printf("number %u, present %d, expected %llu, actual %llu\n", (unsigned)o.number, o.present, (unsigned long long)o.expected,
+           (unsigned long long)o.actual);
+}
+
+static void count_outcome(struct tally *tally, struct outcome o)
+{
+    tally->calls++;
+    if (o.number)
+        tally->refused[o.number]++;
+    else if (o.present)
+        tally->accepted++;
+    else
+        tally->none++;
+}
+
+/* Where a lent list's needed part is known to end; after an accepted call it is as it was from there on. */
+struct end {
+    size_t list, from;
+};
+
+static const struct end unknown = {0, SIZE_MAX};
+
 /* One call; whether it was accepted. Ends the program where a call did what none may. */
-static bool run(const struct function *f, const struct value *values, struct tally *tally)
+static bool run(const struct function *f, const struct value *values, struct tally *tally, struct end needed)
 {
     struct argument arguments[MOST_PARAMETERS];
     place(f, values, arguments);
@@ -116,40 +140,40 @@ static bool run(const struct function *f, const struct value *values, struct tal
     now_call++;
     struct outcome o = f->call(arguments);
     now_call++;
-    const char *found = misuse(f, values, arguments, o);
     if (options.once)
-        printf("number %u, present %d, expected %llu, actual %llu\n", (unsigned)o.number, o.present, (unsigned long long)o.expected,
-               (unsigned long long)o.actual);
+        show_outcome(o);
+    const char *found = misuse(f, values, arguments, o);
+    if (!found && needed.from != SIZE_MAX && !same_from(f, values, arguments, needed.list, needed.from))
+        found = "wrote past the needed part of a list";
     if (found) {
         fflush(stdout);
         report(found);
         exit(1);
     }
     release(f, arguments);
-    tally->calls++;
-    if (o.number)
-        tally->refused[o.number]++;
-    else if (o.present)
-        tally->accepted++;
-    else
-        tally->none++;
+    count_outcome(tally, o);
     return !o.number;
 }
 
-/* The shortest length of one lent list that is accepted, by halves: there the list ends, or begins, at the guard. */
+/* The shortest length of one lent list that is accepted, by halves: there the list ends, or begins, at the guard. Then its full length
+ * again: what is past the shortest must stay as it was.
+ */
 static void shorten(const struct function *f, struct value *values, struct tally *tally)
 {
-    size_t i = below(f->count), least = 0, most = values[i].count;
+    size_t i = below(f->count), least = 0, full = values[i].count, most = full;
     if (f->parameters[i].form != LENT)
         return;
     while (least < most) {
         size_t middle = least + (most - least) / 2;
         values[i].count = middle;
-        if (run(f, values, tally))
+        if (run(f, values, tally, unknown))
             most = middle;
         else
             least = middle + 1;
     }
+    values[i].count = full;
+    if (least < full)
+        run(f, values, tally, (struct end){i, least});
 }
 
 static void run_case(const struct function *all, size_t count, uint64_t number)
@@ -167,7 +191,7 @@ static void run_case(const struct function *all, size_t count, uint64_t number)
         arbitrary(all + which, values);
     for (uint64_t faults = kind < 45 ? 0 : kind < 80 ? 1 : 2 + below(3); faults; faults--)
         spoil(all + which, values, options.mode == HEAP);
-    bool accepted = run(all + which, values, tallies + which);
+    bool accepted = run(all + which, values, tallies + which, unknown);
     if (accepted && all[which].count && chance(40))
         shorten(all + which, values, tallies + which);
     now = 0;

@@ -70,6 +70,7 @@ void *new_list(size_t bytes);
 void begin_guard(enum mode mode);
 void place(const struct function *f, const struct value *values, struct argument *arguments);
 const char *misuse(const struct function *f, const struct value *values, const struct argument *arguments, struct outcome o);
+bool same_from(const struct function *f, const struct value *values, const struct argument *arguments, size_t list, size_t from);
 void release(const struct function *f, struct argument *arguments);
 
 /* parts.c: a call's values such that it is accepted, mostly. */

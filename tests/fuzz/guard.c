@@ -160,3 +160,12 @@ const char *misuse(const struct function *f, const struct value *values, const s
     }
     return found;
 }
+
+/* Whether the list is as it was from this element on. */
+bool same_from(const struct function *f, const struct value *values, const struct argument *a, size_t list, size_t from)
+{
+    size_t width = f->parameters[list].width;
+    if (values[list].huge || from >= a[list].count)
+        return true;
+    return !memcmp((unsigned char *)a[list].list + from * width, values[list].bytes + from * width, (a[list].count - from) * width);
+}

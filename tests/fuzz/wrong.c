@@ -37,6 +37,15 @@ static struct outcome write_element(const struct argument *a)
     return accepted;
 }
 
+/* Needs one element, and writes the last. */
+static struct outcome write_last(const struct argument *a)
+{
+    if (!a[1].count)
+        return short_list;
+    ((volatile uint64_t *)a[1].list)[a[1].count - 1] ^= 1;
+    return accepted;
+}
+
 static struct outcome write_and_refuse(const struct argument *a)
 {
     write_element(a);
@@ -88,6 +97,7 @@ const struct wrong wrongs[] = {
     {{"write_slack", writes, 2, write_past, 0}, START, "wrote outside a list"},
     {{"write_read_only", reads, 2, write_element, 0}, END, "fault"},
     {{"write_const", reads, 2, write_element, 0}, HEAP, "changed a list that it may only read"},
+    {{"write_last", writes, 2, write_last, 0}, END, "wrote past the needed part"},
     {{"write_and_refuse", writes, 2, write_and_refuse, 0}, END, "changed a list and refused"},
     {{"run_forever", reads, 2, run_forever, 0}, END, "no answer"},
     {{"recurse", reads, 2, recurse, 0}, END, "fault"},
