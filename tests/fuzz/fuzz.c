@@ -265,7 +265,8 @@ static const struct wrong *wrong_named(const char *name)
 static bool reported(const char *self, const struct wrong *w)
 {
     char command[512], said[4096];
-    snprintf(command, sizeof command, "'%s' --wrong %s --mode %s --cases 200 --seed 1 --watchdog 1", self, w->function.name, mode_names[w->mode]);
+    snprintf(command, sizeof command, "'%s' --wrong %s --mode %s --cases 200 --seed 1 --watchdog 1", self, w->function.name,
+             mode_names[w->mode]);
     FILE *child = popen(command, "r");
     size_t length = child ? fread(said, 1, sizeof said - 1, child) : 0;
     said[length] = 0;

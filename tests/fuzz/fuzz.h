@@ -58,7 +58,7 @@ enum { MOST_PARAMETERS = 40, LIST_BYTES = 1 << 20, HUGE_COUNT = (1 << 24) + 1 };
 
 enum mode { END, START, HEAP };
 
-/* random.c: one stream for each case; memory.c: lists that live as long as the case. */
+/* random.c: one stream of numbers for each case, and lists that live as long as it. */
 void begin_random(uint64_t seed, uint64_t number);
 uint64_t random_bits(void);
 uint64_t below(uint64_t bound); /* 0 where the bound is 0 */
