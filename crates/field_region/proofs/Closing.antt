@@ -3,20 +3,23 @@ use mathlib.Core.Path.{_≡_, refl, sym, ap, ap₂, _∙_, subst}
 use mathlib.Core.Logic.{_⊎_, inl, inr}
 use mathlib.Core.Bool.{Bool, _&&_, _||_}
 use mathlib.Core.List.{List}
-use Prim.Native.Nat.{ℕ, suc, _+_, _*_, _^_, _≤_, _<_}
+use Prim.Native.Nat.{ℕ, suc, _+_, _-_, _*_, _/_, _^_, _≤_, _<_}
 use native.Mathlib.Omega.{arith}
 use borrow.Author.Tests.{leb-true}
-use lib.Dec.{T, ltb, lt→ltb, ltb→lt}
-use lib.ListN.{length, getD}
+use lib.Bits.{bitAnd, bitOr}
+use lib.Dec.{T, leb, ltb, leb→le, lt→ltb, ltb→lt}
+use lib.ListN.{length, getD, set}
 use Rattle.base.specs.Sets.{between}
 use Rattle.base.proofs.Bools.{bool-ext, and-l, and-r, and-i, or-l, or-r, or-e, eq-or-ne}
 use Rattle.base.specs.declared.Checked.{Checked}
 use Rattle.base.proofs.Checks.{passed, both-passed}
 use Rattle.base.proofs.Sets.{None}
+use Rattle.word.specs.Bits.{wordOf}
 use Rattle.mask.specs.Mask.{inMask, wordsFor, maskWords, IsMask}
 use Rattle.mask.specs.Answers.{withRange}
 use Rattle.mask.proofs.Masks.{mask-cong, mask-holds, accepted-length}
-use Rattle.mask.proofs.Stores.{inRange}
+use Rattle.mask.proofs.Nexts.{NoMember}
+use Rattle.mask.proofs.Stores.{inRange, ranged, range-none, range-turn, range-done}
 use Rattle.dof_layout.specs.Layout.{startOf, totalOf, inBlock, blockOf, IsLayout}
 use Rattle.dof_layout.proofs.Layouts.{start-mono, block-is, block-below, block-holds, accepted-layout}
 use Rattle.graph.specs.Network.{closed}
@@ -137,6 +140,23 @@ module _ (components : List ℕ) (p : ℕ → Bool) where
       to : (i : ℕ) → i < totalOf components → T (p i) ⊎ T (ltb (blockOf components i) b && whole i) → T (whole i)
       to i l (inl t) = holding-i (totalOf components) (blockOf components) p (blockOf components i) i l refl t
       to i l (inr t) = and-r (ltb (blockOf components i) b) (whole i) t
+
+-- ---- what a block's words tell
+
+-- a block that ends at or before the next selected node has none
+pub range-passed : (words : List ℕ) (start end next : ℕ) → NoMember words start next → end ≤ next → (n : ℕ) → None (inRange words start end) n
+range-passed words start end next none h n i l t =
+    let r = and-r (inMask words i) (between start end i) t in
+    none i (leb→le start i (and-l (leb start i) (ltb i end) r)) (omega (arith, ltb→lt i end (and-r (leb start i) (ltb i end) r))) (and-l (inMask words i) (between start end i) t)
+
+-- a block within one word is taken by one store
+pub range-one : (len : ℕ) (words : List ℕ) (start end w hi lo : ℕ) → IsMask len words → end ≤ len → w < wordsFor len → w ≡ start / 64 → wordsFor end ≤ w + 1
+    → hi ≡ wordOf (λ i. ltb i end) w → lo ≡ wordOf (λ i. ltb i start) w
+    → set words w (bitOr (getD words w 0) (bitAnd hi (2 ^ 64 - 1 - lo))) ≡ withRange len words start end
+range-one len words start end w hi lo m le h ew done eh el =
+    let e : words ≡ maskWords len (ranged len words start end w) = range-none len words start end m ∙ ap (λ (v : ℕ). maskWords len (ranged len words start end v)) (sym ew) in
+    ap (λ (l : List ℕ). set l w (bitOr (getD l w 0) (bitAnd hi (2 ^ 64 - 1 - lo)))) e ∙ range-turn len words start end w hi lo h le eh el
+    ∙ range-done len words start end (w + 1) done
 
 -- ---- what acceptance gives
 

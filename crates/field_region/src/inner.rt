@@ -21,27 +21,38 @@ ghost use Rattle.field_region.specs.Growth.{blocksGrownBy, fieldStats};
 ghost use Rattle.field_region.specs.Closure.{closedWords};
 ghost use Rattle.field_region.specs.Owners.{ownerCheck, ownedCheck, ownersOf};
 
-// The blocks of the mask's nodes are taken whole, in place. The scan of a block stops at its first selected bit.
+// The blocks of the mask's nodes are taken whole, in place. The scan of a block stops at its first selected bit; after one that finds none, the
+// blocks that end at or before the next selected node are passed.
 pub fn close_in_place(components: &[u32], offsets: &[u64], words: &mut [u64])
     requires { ⌜ (now offsets ≡ offsetsOf (now components)) × (totalOf (now components) ≤ sideLimit) × IsMask (totalOf (now components)) (now words) ⌝ }
     ensures { λ _. ⌜ now (words .exit) ≡ closedWords (now (components .entry)) (now (words .entry)) ⌝ }
 {
     let total = offsets[components.len()] as usize;
+    let mut next: usize = 0;
     let mut b: usize = 0;
     'blocks: while b < components.len() {
         let start = offsets[b] as usize;
         let end = offsets[b + 1] as usize;
-        let stop = mask::inner::words_for(end);
         b += 1;
-        let mut w = start / AbtmTopologyWord::BITS;
+        if end <= next {
+            continue 'blocks;
+        }
+        let first = start / AbtmTopologyWord::BITS;
+        let stop = mask::inner::words_for(end);
+        let mut w = first;
         while w < stop {
             let block = mask::inner::bits_below(end, w) & !mask::inner::bits_below(start, w);
             if words[w] & block != 0 {
+                if stop == first + 1 {
+                    words[w] |= block;
+                    continue 'blocks;
+                }
                 mask::inner::add_range(total, words, start, end);
                 continue 'blocks;
             }
             w += 1;
         }
+        next = mask::inner::next_member(total, words, end);
     }
 }
 
