@@ -31,15 +31,21 @@ pub fn all_clean(node_count: usize, region_count: usize, words: &[u64]) -> bool
     true
 }
 
-// One more for each member of the mask.
+// One more for each member of the mask, a word's set bits from the lowest on.
 fn add_region(node_count: usize, region: &[u64], counts: &mut [u32])
     requires { ⌜ IsMask «node_count» (now region) × (length (now counts) ≡ «node_count») × ((i : ℕ) → getD (now counts) i 0 < regionLimit) ⌝ }
     ensures { λ _. ⌜ now (counts .exit) ≡ listFrom (λ i. getD (now (counts .entry)) i 0 + one-if (inMask (now (region .entry)) i)) «node_count» 0 ⌝ }
 {
-    let mut i = mask::inner::next_member(node_count, region, 0);
-    while i < node_count {
-        counts[i] += 1;
-        i = mask::inner::next_member(node_count, region, i + 1);
+    let mut w: usize = 0;
+    while w < region.len() {
+        let first = w * AbtmTopologyWord::BITS;
+        let mut bits = region[w];
+        while bits != 0 {
+            let i = first + u64::trailing_zeros(bits) as usize;
+            counts[i] += 1;
+            bits = bits & (bits - 1);
+        }
+        w += 1;
     }
 }
 
