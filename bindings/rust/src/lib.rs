@@ -5,8 +5,9 @@
 //! them over. A refusal comes back as [`Refusal`]. The calls themselves, on lists that the caller lends, are in
 //! [`calls`].
 //!
-//! Three things are found here and not by the port: which word of a row holds a column ([`AbtmTopologyRow`]), two of
-//! the statistics of a plan's pattern ([`prepare_local_numeric_plan`]), and ratios of statistics.
+//! Three things are found here and not by the port: which word of a row holds a column, and that a row or a rank's
+//! column is out of range ([`AbtmTopologyRow`]); two of the statistics of a plan's pattern
+//! ([`prepare_local_numeric_plan`]); and ratios of statistics.
 
 #![deny(unsafe_code)]
 
