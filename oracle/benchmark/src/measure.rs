@@ -118,36 +118,26 @@ fn clock() -> Duration {
 
 /// The time of one piece of work that a call does many times after it has done
 /// something else once, the checks: 1 + N pieces and the rest less 1 piece and
-/// the rest, divided by N. N is chosen so that the pieces take as long as the
-/// rest, which would drown them otherwise.
+/// the rest, divided by N. N grows until the pieces take at least half as long
+/// as the rest, which would drown them otherwise.
 pub fn without_rest<'a>(mut work: impl FnMut(u64) -> Answer + 'a) -> Sample<'a> {
-    let mut work = move |times| assert_eq!(work(times).number, 0, "refused");
-    let mut pieces = None;
-    Box::new(move |at_least| {
-        let one = timed(|| work(1));
-        let pieces = *pieces.get_or_insert_with(|| enough(&mut work, one, at_least));
-        let gained = timed(|| work(1 + pieces)).saturating_sub(one);
-        microseconds(gained) / pieces as f64
-    })
-}
-
-/// So many pieces take as long as the rest.
-fn enough<O>(work: &mut impl FnMut(u64) -> O, rest: Duration, at_least: Duration) -> u64 {
     const MOST_PIECES: u64 = 1 << 20;
+    let mut work = move |times| assert_eq!(work(times).number, 0, "refused");
     let mut pieces = 1;
-    while pieces < MOST_PIECES {
-        let gained = timed(|| work(1 + pieces)).saturating_sub(rest);
-        if gained >= rest.max(at_least) {
-            break;
+    Box::new(move |at_least| {
+        loop {
+            let rest = timed(|| work(1));
+            let gained = timed(|| work(1 + pieces)).saturating_sub(rest);
+            let wanted = rest.max(at_least);
+            if 2 * gained >= wanted || pieces >= MOST_PIECES {
+                return microseconds(gained) / pieces as f64;
+            }
+            // In part the gain may be the rest's own difference from call to
+            // call, so the next one is looked at again.
+            let more = 1.25 * wanted.as_secs_f64() / gained.as_secs_f64();
+            pieces *= more.clamp(2.0, 16.0).ceil() as u64;
         }
-        // A smaller gain may be the rest's own difference from call to call.
-        if gained > rest / 2 && gained > at_least / 2 {
-            let times = 1.25 * rest.max(at_least).as_secs_f64() / gained.as_secs_f64();
-            return (pieces as f64 * times).ceil() as u64;
-        }
-        pieces *= 16;
-    }
-    pieces
+    })
 }
 
 fn timed<O>(work: impl FnOnce() -> O) -> Duration {

@@ -27,7 +27,7 @@ pub fn text(lines: &[Line], resident: Option<[f64; 3]>) -> String {
          ### Memory\n\n{}",
         machine(),
         targets(lines, &sides),
-        others(|key| is_check(key)),
+        others(is_check),
         others(|key| key.shape.columns == "random" && !is_check(key)),
         others(|key| !matches!(key.shape.columns, "" | "banded" | "random")),
         others(|key| key.shape.columns.is_empty()),
