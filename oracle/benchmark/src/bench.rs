@@ -153,9 +153,9 @@ impl Bench {
         }
     }
 
-    /// Measures a row, prints it and keeps it; the port's time. What both sides
+    /// Measures a row, prints it and keeps it. What both sides
     /// left and answered is compared then, and if it differs the program ends.
-    pub fn row(&mut self, place: Place, case: Case, agree: impl FnOnce() -> bool) -> f64 {
+    pub fn row(&mut self, place: Place, case: Case, agree: impl FnOnce() -> bool) {
         let (port, rust) = in_turn(self.effort, case.port, case.rust);
         let row = Row {
             key: Key {
@@ -175,7 +175,6 @@ impl Bench {
             exit(1);
         }
         self.rows.push(row);
-        port.median
     }
 
     pub fn finish(&self) {

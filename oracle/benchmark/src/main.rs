@@ -26,8 +26,7 @@ use std::process::exit;
 use hybit_original::AbtmDualTopology;
 
 use bench::{Bench, Place, Shape};
-use calls::layout::Layouts;
-use calls::{growth, local, mask, prepared, regions, topology};
+use calls::{growth, layout, local, mask, prepared, regions, topology};
 use lend::Topology;
 use measure::{Effort, SHORT, WHOLE};
 use shapes::{BANDED, LONG, RANDOM, UNORDERED, matrix};
@@ -50,11 +49,15 @@ fn main() {
         [] => drop(measured(WHOLE, &SIDES)),
         ["short"] => drop(measured(SHORT, &SIDES[..1])),
         ["write", folder] => write(Path::new(folder)),
-        ["resident", way, side] if resident::WAYS.contains(way) => {
-            resident::child(way, side.parse().unwrap_or(SIDES[0]));
-        }
+        // The program starts itself in these two ways.
+        ["layout", input, side] => layout::child(input, number(side)),
+        ["resident", way, side] => resident::child(way, number(side)),
         _ => usage(),
     }
+}
+
+fn number(argument: &str) -> usize {
+    argument.parse().unwrap_or_else(|_| usage())
 }
 
 fn usage() -> ! {
@@ -73,13 +76,12 @@ fn write(folder: &Path) {
 
 fn measured(effort: Effort, sides: &[usize]) -> Bench {
     let mut bench = Bench::new(effort);
-    let mut layouts = Layouts::new();
     for &side in sides {
         let place = Place {
             shape: Shape::NONE,
             side,
         };
-        layouts.rows(&mut bench, place);
+        layout::rows(&mut bench, place);
         mask::rows(&mut bench, place);
         regions::rows(&mut bench, place);
         for columns in [BANDED, RANDOM] {

@@ -13,7 +13,7 @@ use crate::calls::prepared::{Lent, few_seeds, original, peaks};
 use crate::shapes::{BANDED, matrix};
 
 /// `inputs` makes the matrix, the blocks and the seeds only, as the others do.
-pub const WAYS: [&str; 3] = ["inputs", "port", "rust"];
+const WAYS: [&str; 3] = ["inputs", "port", "rust"];
 
 /// Megabytes at most, for each way, on banded rows of 16.
 pub fn peaks_of_all(side: usize) -> Option<[f64; 3]> {

@@ -2,6 +2,11 @@
 //! layout at each call, the Rust once, in `new`.
 
 use std::cell::RefCell;
+use std::env;
+use std::io;
+use std::process::Command;
+use std::thread::sleep;
+use std::time::{Duration, Instant};
 
 use hybit_original::{DofBlock, FieldAwareDofLayout};
 use hybit_port::*;
@@ -14,37 +19,67 @@ use crate::measure::{calls, calls_on};
 /// So many different nodes are asked for in turn.
 const OPERANDS: usize = 1_000;
 
-/// A layout with random ids that takes so long, in microseconds, is the last of
-/// its kind: its time has grown with the square of the side.
-const LONG: f64 = 1e5;
+/// Where ids stand in no order the port may search all earlier blocks for each,
+/// which at the largest side takes minutes. A layout that a process of its own
+/// does not build in this time is left out.
+const LONGEST: Duration = Duration::from_secs(3);
 
-pub struct Layouts {
-    random_ids: bool,
+type Kind = (&'static str, fn(usize) -> Vec<DofBlock>);
+
+const RISING: [Kind; 3] = [
+    ("blocks of 1", |side| over(side, 1)),
+    ("blocks of 3", |side| over(side, 3)),
+    ("two fields, field-major", field_major),
+];
+
+const NO_ORDER: [Kind; 2] = [
+    ("two fields, shuffled", shuffled),
+    ("random ids", random_ids),
+];
+
+pub fn rows(bench: &mut Bench, place: Place) {
+    for (input, blocks) in RISING {
+        new(bench, place, input, &blocks(place.side));
+    }
+    for (input, blocks) in NO_ORDER {
+        if ends_soon(input, place.side).unwrap_or(false) {
+            new(bench, place, input, &blocks(place.side));
+        } else {
+            println!("layout new, {input}, {}: left out, too long", place.side);
+        }
+    }
+    for (input, blocks) in &RISING[..2] {
+        let blocks = blocks(place.side);
+        on_layout(bench, place, input, &Lists::of(&blocks), &layout(&blocks));
+    }
 }
 
-impl Layouts {
-    pub fn new() -> Self {
-        Self { random_ids: true }
+fn ends_soon(input: &str, side: usize) -> io::Result<bool> {
+    let mut child = Command::new(env::current_exe()?)
+        .args(["layout", input, &side.to_string()])
+        .spawn()?;
+    let start = Instant::now();
+    while start.elapsed() < LONGEST {
+        if let Some(status) = child.try_wait()? {
+            return Ok(status.success());
+        }
+        sleep(Duration::from_millis(5));
     }
+    child.kill()?;
+    child.wait()?;
+    Ok(false)
+}
 
-    pub fn rows(&mut self, bench: &mut Bench, place: Place) {
-        let side = place.side;
-        new(bench, place, "blocks of 1", &over(side, 1));
-        new(bench, place, "blocks of 3", &over(side, 3));
-        new(bench, place, "two fields, field-major", &field_major(side));
-        new(bench, place, "two fields, shuffled", &shuffled(side));
-        if self.random_ids {
-            let time = new(bench, place, "random ids", &random_ids(side));
-            self.random_ids = time < LONG;
-        }
-        for (size, input) in [(1, "blocks of 1"), (3, "blocks of 3")] {
-            let blocks = over(side, size);
-            on_layout(bench, place, input, &Lists::of(&blocks), &layout(&blocks));
-        }
+/// What the process of its own does.
+pub fn child(input: &str, side: usize) {
+    for (_, blocks) in NO_ORDER.iter().filter(|kind| kind.0 == input) {
+        let lists = Lists::of(&blocks(side));
+        let mut out = vec![0; lists.kinds.len() + 1];
+        lend!(hybit_layout_new: blocks(lists), write(out));
     }
 }
 
-fn new(bench: &mut Bench, place: Place, input: &str, blocks: &[DofBlock]) -> f64 {
+fn new(bench: &mut Bench, place: Place, input: &str, blocks: &[DofBlock]) {
     let lists = Lists::of(blocks);
     let out = RefCell::new(vec![0; blocks.len() + 1]);
     let port = calls(|_| {
@@ -64,7 +99,7 @@ fn new(bench: &mut Bench, place: Place, input: &str, blocks: &[DofBlock]) -> f64
         let starts: Vec<u64> = starts.map(|range| range.start).collect();
         let end = [rust.total_dofs()];
         *out.borrow() == [&starts[..], &end].concat()
-    })
+    });
 }
 
 fn on_layout(
