@@ -53,7 +53,8 @@ fn larger(first: &Row, last: &Row) -> f64 {
 fn exponents(first: &Row, last: &Row) -> Option<[f64; 2]> {
     let of = |first: Times, last: Times| (last.median / first.median).ln();
     let times = [of(first.port, last.port), of(first.rust?, last.rust?)];
-    (first.side < last.side).then(|| times.map(|time| time / larger(first, last)))
+    let told = first.side < last.side && times.iter().all(|time| time.is_finite());
+    told.then(|| times.map(|time| time / larger(first, last)))
 }
 
 pub fn text(lines: &[Line]) -> String {

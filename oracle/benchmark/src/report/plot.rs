@@ -76,6 +76,7 @@ fn is_drawn(key: &Key) -> bool {
 fn points(line: &Line) -> Vec<(f64, f64)> {
     let rows = line.rows.iter();
     rows.filter_map(|row| Some((row.side as f64, row.ratio()?)))
+        .filter(|point| point.1 > 0.0)
         .collect()
 }
 
