@@ -2,7 +2,6 @@
 //! times after one check.
 
 use std::env;
-use std::fs;
 use std::path::Path;
 
 fn main() {
@@ -10,20 +9,13 @@ fn main() {
     let libraries = env::var_os("RATTLE_LIBS").unwrap_or("target/staticlib".into());
     let folder = Path::new(&package).join("../..").join(libraries);
     let archive = folder.join("librepeated.a");
-    println!("cargo::rustc-check-cfg=cfg(repeated_closing)");
     println!("cargo::rerun-if-env-changed=RATTLE_LIBS");
     println!("cargo::rerun-if-changed={}", archive.display());
-    let Ok(bytes) = fs::read(&archive) else {
+    if !archive.exists() {
         println!(
             "cargo::error={} is missing: build it (rt staticlib repeated), or set RATTLE_LIBS",
             archive.display()
         );
-        return;
-    };
-    // An archive without this function is one of before it was written.
-    let closing = b"hybit_repeated_closing";
-    if bytes.windows(closing.len()).any(|place| place == closing) {
-        println!("cargo::rustc-cfg=repeated_closing");
     }
     println!("cargo::rustc-link-search=native={}", folder.display());
     println!("cargo::rustc-link-lib=static=repeated");

@@ -49,8 +49,7 @@ fn main() {
         [] => drop(measured(WHOLE, &SIDES)),
         ["short"] => drop(measured(SHORT, &SIDES[..1])),
         ["write", folder] => write(Path::new(folder)),
-        // The program starts itself in these two ways.
-        ["layout", input, side] => layout::child(input, number(side)),
+        // The program starts itself in this way.
         ["resident", way, side] => resident::child(way, number(side)),
         _ => usage(),
     }

@@ -120,7 +120,6 @@ unsafe extern "C" {
         out_len: usize,
     ) -> Answer;
 
-    #[cfg(repeated_closing)]
     pub fn hybit_repeated_closing(
         kinds: *const u8,
         kinds_len: usize,

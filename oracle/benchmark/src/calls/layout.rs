@@ -2,11 +2,6 @@
 //! layout at each call, the Rust once, in `new`.
 
 use std::cell::RefCell;
-use std::env;
-use std::io;
-use std::process::Command;
-use std::thread::sleep;
-use std::time::{Duration, Instant};
 
 use hybit_original::{DofBlock, FieldAwareDofLayout};
 use hybit_port::*;
@@ -19,63 +14,23 @@ use crate::measure::{calls, calls_on};
 /// So many different nodes are asked for in turn.
 const OPERANDS: usize = 1_000;
 
-/// Where ids stand in no order the port may search all earlier blocks for each,
-/// which at the largest side takes minutes. A layout that a process of its own
-/// does not build in this time is left out.
-const LONGEST: Duration = Duration::from_secs(3);
-
 type Kind = (&'static str, fn(usize) -> Vec<DofBlock>);
 
-const RISING: [Kind; 3] = [
+const KINDS: [Kind; 5] = [
     ("blocks of 1", |side| over(side, 1)),
     ("blocks of 3", |side| over(side, 3)),
     ("two fields, field-major", field_major),
-];
-
-const NO_ORDER: [Kind; 2] = [
     ("two fields, shuffled", shuffled),
     ("random ids", random_ids),
 ];
 
 pub fn rows(bench: &mut Bench, place: Place) {
-    for (input, blocks) in RISING {
+    for (input, blocks) in KINDS {
         new(bench, place, input, &blocks(place.side));
     }
-    for (input, blocks) in NO_ORDER {
-        if ends_soon(input, place.side).unwrap_or(false) {
-            new(bench, place, input, &blocks(place.side));
-        } else {
-            println!("layout new, {input}, {}: left out, too long", place.side);
-        }
-    }
-    for (input, blocks) in &RISING[..2] {
+    for (input, blocks) in &KINDS[..2] {
         let blocks = blocks(place.side);
         on_layout(bench, place, input, &Lists::of(&blocks), &layout(&blocks));
-    }
-}
-
-fn ends_soon(input: &str, side: usize) -> io::Result<bool> {
-    let mut child = Command::new(env::current_exe()?)
-        .args(["layout", input, &side.to_string()])
-        .spawn()?;
-    let start = Instant::now();
-    while start.elapsed() < LONGEST {
-        if let Some(status) = child.try_wait()? {
-            return Ok(status.success());
-        }
-        sleep(Duration::from_millis(5));
-    }
-    child.kill()?;
-    child.wait()?;
-    Ok(false)
-}
-
-/// What the process of its own does.
-pub fn child(input: &str, side: usize) {
-    for (_, blocks) in NO_ORDER.iter().filter(|kind| kind.0 == input) {
-        let lists = Lists::of(&blocks(side));
-        let mut out = vec![0; lists.kinds.len() + 1];
-        lend!(hybit_layout_new: blocks(lists), write(out));
     }
 }
 

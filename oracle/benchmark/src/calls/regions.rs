@@ -11,10 +11,7 @@ use hybit_port::*;
 use crate::bench::{Bench, Case, Place};
 use crate::blocks::{Lists, layout, over};
 use crate::lend::lend;
-use crate::measure::calls;
-#[cfg(repeated_closing)]
-use crate::measure::{calls_in_a_row, without_rest};
-#[cfg(repeated_closing)]
+use crate::measure::{calls, calls_in_a_row, without_rest};
 use crate::repeated::hybit_repeated_closing;
 use crate::shapes::{one_in, one_seed, region};
 
@@ -55,15 +52,12 @@ fn close(
         .beside(calls(|_| rust()))
         .memory(8 * out.borrow().len(), rust);
     bench.row(place, case, agree);
-    #[cfg(repeated_closing)]
-    {
-        let again = without_rest(|times| {
-            let mut out = out.borrow_mut();
-            lend!(hybit_repeated_closing: layout(lists), mask(selected), value(times), write(out))
-        });
-        let case = Case::work(CALL, input, again).beside(calls_in_a_row(rust));
-        bench.row(place, case, agree);
-    }
+    let again = without_rest(|times| {
+        let mut out = out.borrow_mut();
+        lend!(hybit_repeated_closing: layout(lists), mask(selected), value(times), write(out))
+    });
+    let case = Case::work(CALL, input, again).beside(calls_in_a_row(rust));
+    bench.row(place, case, agree);
 }
 
 fn owners(
