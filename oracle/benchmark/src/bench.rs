@@ -5,6 +5,7 @@ use std::time::Instant;
 
 use crate::measure::{Effort, Sample, Times, in_turn};
 use crate::memory;
+use crate::shapes::SCATTERED;
 
 /// The matrix of a row; no `columns` and 0 entries for a row without one.
 #[derive(Clone, Copy, PartialEq)]
@@ -43,10 +44,10 @@ impl Key {
         parts.join(", ")
     }
 
-    /// At most so much of the Rust's time, on banded input. A call's work is
+    /// At most so much of the Rust's time, on chromatogram-like input. A call's work is
     /// judged where its checks are measured apart, else the whole call.
     pub fn target(&self) -> Option<f64> {
-        if !matches!(self.shape.columns, "" | "banded") {
+        if !matches!(self.shape.columns, "" | "banded") || self.input.contains(SCATTERED) {
             return None;
         }
         match (self.call, self.work) {

@@ -128,6 +128,17 @@ pub fn region(side: usize, percent: usize) -> DofMask {
     DofMask::from_indices(side, &nodes).expect("nodes")
 }
 
+/// In the name of an input whose nodes follow no order, unlike those of a
+/// chromatogram's region.
+pub const SCATTERED: &str = "% of the nodes in no order";
+
+/// So many nodes in a hundred, in no order.
+pub fn scattered(side: usize, percent: usize) -> DofMask {
+    let mut chance = Chance(1);
+    let nodes: Vec<usize> = (0..side).filter(|_| chance.below(100) < percent).collect();
+    DofMask::from_indices(side, &nodes).expect("nodes")
+}
+
 /// The values differ, so that a gather shows its sources.
 pub fn numbered(matrix: &Csr32Matrix) -> Vec<f64> {
     (0..matrix.nnz()).map(|source| source as f64).collect()

@@ -13,7 +13,7 @@ use crate::blocks::{Lists, layout, over};
 use crate::lend::lend;
 use crate::measure::{calls, calls_in_a_row, without_rest};
 use crate::repeated::hybit_repeated_closing;
-use crate::shapes::{one_in, one_seed, region};
+use crate::shapes::{SCATTERED, one_in, one_seed, region, scattered};
 
 pub fn rows(bench: &mut Bench, place: Place) {
     for (size, named) in [(3, "blocks of 3"), (1, "blocks of 1")] {
@@ -24,7 +24,11 @@ pub fn rows(bench: &mut Bench, place: Place) {
             format!("{named}, 30 % of the nodes"),
             region(place.side, 30),
         );
-        for (input, selected) in [small, large] {
+        let scattered = (
+            format!("{named}, 30 {SCATTERED}"),
+            scattered(place.side, 30),
+        );
+        for (input, selected) in [small, large, scattered] {
             close(bench, place, &input, (&lists, &layout), &selected);
         }
         owners(bench, place, named, (&lists, &layout));
