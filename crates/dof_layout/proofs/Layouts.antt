@@ -20,7 +20,8 @@ use Rattle.base.proofs.Bools.{and-l, and-r, and-i, eq-or-ne}
 use Rattle.base.proofs.Checks.{pass, stop, group-pass, last-pass, last-stop, passed, length-passed, both-passed, checks-passed}
 use Rattle.base.proofs.Lists.{length-listFrom, getD-listFrom, same-list, list-same, other-list, step-of}
 use Rattle.base.proofs.Sets.{first-is, sum-zero, sum-suc, sum-mono}
-use Rattle.dof_layout.specs.Layout.{startOf, totalOf, offsetsOf, inBlock, blockOf, isKind, sameKey, blockCheck, blocksCheck, layoutCheck, AreBlocks, IsLayout}
+use Rattle.twins.specs.Keys.{sameKey}
+use Rattle.dof_layout.specs.Layout.{startOf, totalOf, offsetsOf, inBlock, blockOf, isKind, blockCheck, blocksCheck, layoutCheck, AreBlocks, IsLayout}
 
 -- ---- running totals
 

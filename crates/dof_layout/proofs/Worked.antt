@@ -12,7 +12,8 @@ use Rattle.dof_layout.specs.declared.DofEntityKind.{DofEntityKind}
 use Rattle.dof_layout.specs.declared.Kinded.{Kinded}
 use Rattle.dof_layout.specs.declared.Located.{Located}
 use Rattle.dof_layout.specs.declared.Ranged.{Ranged}
-use Rattle.dof_layout.specs.Layout.{startOf, offsetsOf, blockOf, isKind, sameKey, blockCheck, blocksCheck, layoutCheck}
+use Rattle.twins.specs.Keys.{sameKey}
+use Rattle.dof_layout.specs.Layout.{startOf, offsetsOf, blockOf, isKind, blockCheck, blocksCheck, layoutCheck}
 use Rattle.dof_layout.specs.Answers.{kindNamed, kindAnswer, newCheck, newAnswer, newOffsets, totalAnswer, rangeAnswer, locateAnswer, squareCheck, fieldCheck, fieldAnswer, fieldWords}
 
 pub record Layouts : Type 0 where

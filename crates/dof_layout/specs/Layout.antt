@@ -10,6 +10,7 @@ use Rattle.base.specs.Checks.{must, mustBe, _then_, checksBelow, sideLimit}
 use Rattle.base.specs.Lists.{sameList, listFrom}
 use Rattle.base.specs.Sets.{between, anyBelow, firstBelow, sumBelow}
 use Rattle.base.specs.declared.Checked.{Checked}
+use Rattle.twins.specs.Keys.{sameKey}
 
 -- ---- blocks take consecutive nodes from 0
 
@@ -38,11 +39,6 @@ blockOf components i = firstBelow (length components) (λ b. inBlock components 
 -- 17: the kind is 1 to 6 or 255
 unfoldable pub isKind : ℕ → Bool
 isKind kind = between 1 7 kind || eqb kind 255
-
--- 16: entity kind, id and field id all repeat
-unfoldable pub sameKey : List ℕ → List ℕ → List ℕ → ℕ → ℕ → Bool
-sameKey kinds ids fields a b =
-    eqb (getD kinds a 0) (getD kinds b 0) && eqb (getD ids a 0) (getD ids b 0) && eqb (getD fields a 0) (getD fields b 0)
 
 -- one block: 17, 15, 16 against every earlier block, 1 for the total with it
 unfoldable pub blockCheck : List ℕ → List ℕ → List ℕ → List ℕ → ℕ → Checked

@@ -1,4 +1,3 @@
 pub mod Layout
-pub mod Keys
 pub mod Runs
 pub mod Answers

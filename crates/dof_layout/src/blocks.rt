@@ -1,12 +1,11 @@
 // The checks of the blocks: 14, 11, then block by block 17, 15, 16, 1.
-use crate::twins;
 use base::Checked;
 ghost use mathlib.Core.Path.{_≡_};
 ghost use Prim.Native.Nat.{_+_, _<_, _≤_};
 ghost use lib.ListN.{length};
 ghost use Rattle.base.specs.Checks.{checksBelow, sideLimit};
 ghost use Rattle.dof_layout.specs.Layout.{isKind, blockCheck, blocksCheck};
-ghost use Rattle.dof_layout.specs.Keys.{Keyed};
+ghost use Rattle.twins.specs.Keys.{Keyed};
 
 fn is_kind(kind: u8) -> bool
     ensures { λ r. ⌜ r ≡ isKind kind ⌝ }
@@ -47,7 +46,7 @@ fn check_each(kinds: &[u8], ids: &[u64], fields: &[u32], components: &[u32]) -> 
     let mut b: usize = 0;
     while b < kinds.len() {
         let reach = reach_from(b, kinds.len());
-        let twin = twins::first_twin(kinds, ids, fields, reach);
+        let twin = twins::inner::first_twin(kinds, ids, fields, reach);
         while b < reach {
             if !is_kind(kinds[b]) {
                 return base::refused(17);

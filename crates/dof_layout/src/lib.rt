@@ -9,9 +9,6 @@ ghost use Rattle.dof_layout.specs.Answers.{codeOf, kindAnswer, newAnswer
 
 mod blocks;
 pub mod inner;
-mod keys;
-mod table;
-mod twins;
 
 pub enum DofEntityKind {
     Node,

@@ -10,7 +10,8 @@ use Rattle.base.specs.declared.Checked.{Checked}
 use Rattle.base.specs.declared.Counted.{Counted}
 use Rattle.word.specs.Bits.{bitAt, wordFrom}
 use Rattle.mask.specs.Mask.{inMask, maskWords, clean, shapeCheck, lengthCheck}
-use Rattle.dof_layout.specs.Layout.{startOf, totalOf, offsetsOf, blockOf, isKind, sameKey, blockCheck, blocksCheck, layoutCheck}
+use Rattle.twins.specs.Keys.{sameKey}
+use Rattle.dof_layout.specs.Layout.{startOf, totalOf, offsetsOf, blockOf, isKind, blockCheck, blocksCheck, layoutCheck}
 use Rattle.dof_layout.specs.Answers.{squareCheck}
 use Rattle.side.specs.Side.{rowWords, maskFor, rowHolds, sideHolds}
 use Rattle.side.specs.Check.{limitCheck, faultCheck, bitsIn, listsAgree, wordInside, goodWord, wordsFault, sideFault}

@@ -15,7 +15,8 @@ use Rattle.base.specs.declared.Counted.{Counted}
 use Rattle.word.specs.Bits.{bitAt, wordFrom}
 use Rattle.csr32.specs.Matrix.{matrixCheck, stored}
 use Rattle.mask.specs.Mask.{inMask, maskWords, clean, shapeCheck, lengthCheck}
-use Rattle.dof_layout.specs.Layout.{startOf, offsetsOf, blockOf, isKind, sameKey, blockCheck, blocksCheck, layoutCheck}
+use Rattle.twins.specs.Keys.{sameKey}
+use Rattle.dof_layout.specs.Layout.{startOf, offsetsOf, blockOf, isKind, blockCheck, blocksCheck, layoutCheck}
 use Rattle.dof_layout.specs.Answers.{squareCheck}
 use Rattle.side.specs.Side.{flip, rowWords, rowMasks}
 use Rattle.side.specs.Check.{sideRoom}

@@ -91,6 +91,15 @@ impl<'groups> Tally<'groups> {
         self.counts[place][expected.answer.number as usize] += 1;
     }
 
+    /// The comparisons of another tally of the same groups.
+    pub fn add(&mut self, other: &Self) {
+        for (own, others) in self.counts.iter_mut().zip(&other.counts) {
+            for (count, more) in own.iter_mut().zip(others) {
+                *count += more;
+            }
+        }
+    }
+
     pub fn comparisons(&self) -> u64 {
         self.counts.iter().flatten().sum()
     }

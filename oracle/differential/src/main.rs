@@ -31,7 +31,10 @@ mod typed;
 
 use std::env;
 use std::io;
+use std::num::NonZero;
 use std::path::Path;
+use std::sync::atomic::{AtomicUsize, Ordering};
+use std::thread;
 use std::time::{Duration, Instant, SystemTime, UNIX_EPOCH};
 
 use crate::compare::{Tally, fail};
@@ -99,24 +102,34 @@ fn written(folder: &str, result: io::Result<()>) {
     }
 }
 
+/// A part of a run, which needs none of the others.
+type Piece<'run> = Box<dyn Fn(&mut Tally<'run>) + Send + Sync + 'run>;
+
 fn whole_run(groups: &[&'static Group]) {
-    let mut tally = Tally::new(groups);
-    examples::run(groups, &mut tally);
     let mut recorded = record::all_calls();
     recorded.retain(|call| place(groups, call).is_some());
     self_test::run(&recorded);
-    for call in recorded {
-        tally.compare(call);
+    let mut pieces: Vec<Piece> = vec![];
+    for seed in 100..104 {
+        pieces.push(Box::new(move |tally| {
+            let mut rng = Rng::new(seed);
+            for _ in 0..500_000 {
+                random_round(groups, &mut rng, tally);
+            }
+        }));
     }
     for group in groups {
-        (group.fixed)(&mut |call| tally.compare(call));
+        pieces.push(Box::new(|tally| {
+            (group.fixed)(&mut |call| tally.compare(call));
+        }));
     }
-    for seed in 100..104 {
-        let mut rng = Rng::new(seed);
-        for _ in 0..500_000 {
-            random_round(groups, &mut rng, &mut tally);
+    pieces.push(Box::new(|tally| examples::run(groups, tally)));
+    pieces.push(Box::new(move |tally| {
+        for call in &recorded {
+            tally.compare(call.clone());
         }
-    }
+    }));
+    let tally = side_by_side(groups, &pieces);
     tally.demand_every_number();
     finish(&tally);
 }
@@ -124,15 +137,44 @@ fn whole_run(groups: &[&'static Group]) {
 fn soak(seconds: u64, seed: u64) {
     println!("soak: {seconds} seconds from seed {seed}");
     let start = Instant::now();
-    let mut rng = Rng::new(seed);
     let groups = all_groups();
-    let mut tally = Tally::new(&groups);
-    while start.elapsed() < Duration::from_secs(seconds) {
-        for _ in 0..1_000 {
-            random_round(&groups, &mut rng, &mut tally);
-        }
+    let mut pieces: Vec<Piece> = vec![];
+    for worker in 0..workers() as u64 {
+        let groups = &groups;
+        pieces.push(Box::new(move |tally| {
+            let mut rng = Rng::new(seed.wrapping_add(worker));
+            while start.elapsed() < Duration::from_secs(seconds) {
+                for _ in 0..1_000 {
+                    random_round(groups, &mut rng, tally);
+                }
+            }
+        }));
     }
-    finish(&tally);
+    finish(&side_by_side(&groups, &pieces));
+}
+
+fn workers() -> usize {
+    thread::available_parallelism().map_or(1, NonZero::get)
+}
+
+/// Each worker takes the next piece that nobody has taken.
+fn side_by_side<'run>(groups: &'run [&'static Group], pieces: &[Piece<'run>]) -> Tally<'run> {
+    let taken = AtomicUsize::new(0);
+    let work = || {
+        let mut tally = Tally::new(groups);
+        while let Some(piece) = pieces.get(taken.fetch_add(1, Ordering::Relaxed)) {
+            piece(&mut tally);
+        }
+        tally
+    };
+    let mut whole = Tally::new(groups);
+    thread::scope(|scope| {
+        let running: Vec<_> = (0..workers()).map(|_| scope.spawn(work)).collect();
+        for worker in running {
+            whole.add(&worker.join().expect("a worker panicked"));
+        }
+    });
+    whole
 }
 
 fn random_round(groups: &[&Group], rng: &mut Rng, tally: &mut Tally) {

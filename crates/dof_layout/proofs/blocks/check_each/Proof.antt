@@ -13,9 +13,9 @@ use Rattle.base.proofs.Bools.{T-true, T-false, not-T-of, lt-or-le}
 use Rattle.base.proofs.Checks.{call-no, call-yes, checks-none, checks-next, checks-stop}
 use Rattle.base.proofs.Sets.{First, below-next}
 use Rattle.dof_layout.specs.Layout.{startOf, isKind, blockCheck}
-use Rattle.dof_layout.specs.Keys.{repeated, firstTwin}
+use Rattle.twins.specs.Keys.{repeated, firstTwin}
 use Rattle.dof_layout.proofs.Layouts.{start-zero, start-next, block-17, block-15, block-16, block-1, block-ok}
-use Rattle.dof_layout.proofs.Tables.{twin-is}
+use Rattle.twins.proofs.Tables.{twin-is}
 use Rattle.dof_layout.proofs.blocks.check_each.Statement.{statement}
 use Rattle.dof_layout.proofs.blocks.check_each.Tie as tie
 
