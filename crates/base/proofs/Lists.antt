@@ -1,18 +1,18 @@
 -- Laws of lists: scans from the front, membership, lists made by a rule, and a list written over the front of a lent one. Assumes nothing.
 use mathlib.Core.Path.{_≡_, refl, sym, ap, ap₂, _∙_, subst}
-use mathlib.Core.Bool.{Bool, true, false, _&&_, _||_, or-assoc, or-comm}
+use mathlib.Core.Bool.{Bool, true, false, _&&_, _||_, and-true, and-false, or-assoc, or-comm}
 use mathlib.Core.List.{List, [], _∷_, _++_, map, append-nil, append-assoc}
 use mathlib.Core.Logic.{_⊎_, inl, inr}
 use Prim.Native.Nat.{ℕ, zero, suc, _+_, _-_, _≤_, _<_}
 use native.Mathlib.Nat.{zero-add, add-zero, le-refl, le-of-suc-le-suc, not-suc-le-zero, le-of-lt, sub-zero, zero-sub, suc-sub-suc}
 use native.Mathlib.Numerals.{add-one}
 use native.Mathlib.Omega.{arith}
-use borrow.Author.Tests.{eq-eqb, eqb-true}
-use lib.Dec.{T, eqb, eqb→eq}
+use borrow.Author.Tests.{eq-eqb, eqb-true, lt-ltb}
+use lib.Dec.{T, ltb, eqb, ltb→lt, lt→ltb, eqb→eq}
 use lib.ListN.{length, getD, set, take, drop, replicate, List·getD-append, drop-of-length-le, length-append, length-take, length-drop, length-replicate, take-append-drop, replicate-append-replicate}
 use lib.Seq.{slice, getD-append-add, drop-cons, take-suc, take-take, length-take-le, set-at, append-snoc, take-all, drop-length, getD-drop, getD-take, length-slice, slice-empty, drop-append-le, drop-append-add, drop-drop, ext-getD, take-append-seam, take-nil, take-at}
-use Rattle.base.specs.Lists.{every, pairwise, isIn, sameList, listFrom, written, over, placed, overZeros, zeroed}
-use Rattle.base.proofs.Bools.{bool-ext, and-left, and-right, or-l, or-r, or-e, or-false, T-true, T-false, T-of, both-ways, lt-or-le}
+use Rattle.base.specs.Lists.{every, below, pairwise, isIn, sameList, listFrom, written, over, placed, overZeros, zeroed}
+use Rattle.base.proofs.Bools.{bool-ext, and-l, and-r, and-i, and-under, and-left, and-right, or-l, or-r, or-e, or-false, T-true, T-false, T-of, both-ways, lt-or-le}
 
 -- ---- a loop that tests a list from the front: the test of the whole list is the test of what is left of it
 
@@ -25,6 +25,39 @@ module _ {A : Type 0} (f : A → Bool) (d : A) (s : List A) where
 
   pub every-end : (i : ℕ) → length s ≤ i → every f s ≡ every f (drop i s) → every f s ≡ true
   every-end i h e = e ∙ ap (every f) (drop-of-length-le s h)
+
+-- ---- a loop that no element ends: the test of the whole list is what was found so far and the test of what is left
+
+module _ {A : Type 0} (f : A → Bool) (d : A) (s : List A) where
+  pub found-more : (a : Bool) (i : ℕ) → i < length s → every f s ≡ (a && every f (drop i s)) → every f s ≡ (a && (f (getD s i d) && every f (drop (i + 1) s)))
+  found-more a i h e = e ∙ ap (λ l. a && every f l) (drop-cons s i d h ∙ ap (λ n. getD s i d ∷ drop n s) (sym (add-one i)))
+
+  pub found-pass : (a : Bool) (i : ℕ) → i < length s → f (getD s i d) ≡ true → every f s ≡ (a && every f (drop i s)) → every f s ≡ (a && every f (drop (i + 1) s))
+  found-pass a i h t e = found-more a i h e ∙ ap (λ y. a && (y && every f (drop (i + 1) s))) t
+
+  pub found-fail : (a : Bool) (i : ℕ) → i < length s → f (getD s i d) ≡ false → every f s ≡ (a && every f (drop i s)) → every f s ≡ false
+  found-fail a i h t e = found-more a i h e ∙ ap (λ y. a && (y && every f (drop (i + 1) s))) t ∙ and-false a
+
+  pub found-last : (a : Bool) (i : ℕ) → length s ≤ i → every f s ≡ (a && every f (drop i s)) → every f s ≡ a
+  found-last a i h e = e ∙ ap (λ l. a && every f l) (drop-of-length-le s h) ∙ and-true a
+
+-- and where it keeps the largest element, to hold it to a bound
+module _ (b : ℕ) (s : List ℕ) where
+  pub top-first : 0 < length s → every (below b) s ≡ (ltb (getD s 0 0) b && every (below b) (drop 1 s))
+  top-first h = ap (every (below b)) (drop-cons s 0 0 h)
+
+  pub top-more : (top i : ℕ) → i < length s → top < getD s i 0 → every (below b) s ≡ (ltb top b && every (below b) (drop i s))
+      → every (below b) s ≡ (ltb (getD s i 0) b && every (below b) (drop (i + 1) s))
+  top-more top i h l e =
+      found-more (below b) 0 s (ltb top b) i h e
+      ∙ bool-ext _ _ (and-r (ltb top b) _)
+        (λ t. and-i (ltb top b) _ (lt→ltb top b (omega (arith, l, ltb→lt (getD s i 0) b (and-l (ltb (getD s i 0) b) _ t)))) t)
+
+  pub top-same : (top i : ℕ) → i < length s → getD s i 0 ≤ top → every (below b) s ≡ (ltb top b && every (below b) (drop i s))
+      → every (below b) s ≡ (ltb top b && every (below b) (drop (i + 1) s))
+  top-same top i h l e =
+      found-more (below b) 0 s (ltb top b) i h e
+      ∙ and-under (ltb top b) _ _ (λ t. ap (λ y. y && every (below b) (drop (i + 1) s)) (lt-ltb (getD s i 0) b (omega (arith, l, ltb→lt top b t))))
 
 pub every-at : {A : Type 0} (f : A → Bool) (d : A) (s : List A) (i : ℕ) → every f s ≡ true → i < length s → f (getD s i d) ≡ true
 every-at f d [] i e h = absurd (not-suc-le-zero h)

@@ -11,17 +11,19 @@ pub fn is_finite(x: f64) -> bool
     x - x == 0.0
 }
 
+// No value ends the pass, so that the compiler takes several at a time.
 pub fn all_finite(s: &[f64]) -> bool
     ensures { λ r. ⌜ r ≡ every finite (now (s .entry)) ⌝ }
 {
+    let mut all = true;
     let mut i: usize = 0;
     while i < s.len() {
         if !is_finite(s[i]) {
-            return false;
+            all = false;
         }
         i += 1;
     }
-    true
+    all
 }
 
 pub fn validate(
