@@ -51,7 +51,7 @@ module _ (b : ℕ) (s : List ℕ) where
   top-more top i h l e =
       found-more (below b) 0 s (ltb top b) i h e
       ∙ bool-ext _ _ (and-r (ltb top b) _)
-        (λ t. and-i (ltb top b) _ (lt→ltb top b (omega (arith, l, ltb→lt (getD s i 0) b (and-l (ltb (getD s i 0) b) _ t)))) t)
+      (λ t. and-i (ltb top b) _ (lt→ltb top b (omega (arith, l, ltb→lt (getD s i 0) b (and-l (ltb (getD s i 0) b) _ t)))) t)
 
   pub top-same : (top i : ℕ) → i < length s → getD s i 0 ≤ top → every (below b) s ≡ (ltb top b && every (below b) (drop i s))
       → every (below b) s ≡ (ltb top b && every (below b) (drop (i + 1) s))
