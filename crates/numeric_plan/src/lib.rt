@@ -1,16 +1,13 @@
 // The numeric plan of a region, region.rs of the Rust: for each pair of the local pattern its entries in stored order, as they stand in the matrix.
 use base::Checked;
 use base::Refusal;
-use binding::Binding;
 ghost use mathlib.Core.Path.{_≡_};
-ghost use Rattle.base.specs.Checks.{_then_, after};
-ghost use lib.ListN.{replicate, take};
-ghost use Rattle.mask.specs.Mask.{inMask, wordsFor, maskWords};
+ghost use Rattle.base.specs.Checks.{_then_};
+ghost use Rattle.mask.specs.Mask.{inMask};
 ghost use Rattle.csr32.specs.Matrix.{matrixCheck, stored};
 ghost use Rattle.side.specs.Side.{sideHolds};
 ghost use Rattle.dual_topology.specs.Check.{topologyCheck};
 ghost use Rattle.pattern.specs.Pattern.{regionCheck, nodesLeft, ptrLeft, columnsLeft};
-ghost use Rattle.binding.specs.Steps.{countsOf, hasPair};
 ghost use Rattle.numeric_plan.specs.Plan.{pairEntries, sidesCheck, planInputs, planCheck, planAnswer, sourcePtrLeft, sourcesLeft};
 
 pub mod inner;
@@ -80,71 +77,6 @@ fn check_region(
     }
 }
 
-// The matrix, the region, and by local row 23 and 24. What the rows hold inside the region, and which of them have a pair.
-fn check_inputs(
-    nrows: usize,
-    ncols: usize,
-    row_word_ptr: &[u32],
-    row_word_indices: &[u32],
-    row_masks: &[u64],
-    structural_nnz: usize,
-    column_nrows: usize,
-    column_ncols: usize,
-    column_word_ptr: &[u32],
-    column_word_indices: &[u32],
-    column_masks: &[u64],
-    column_structural_nnz: usize,
-    matrix_nrows: usize,
-    matrix_ncols: usize,
-    row_ptr: &[u32],
-    col_idx: &[u32],
-    values: &[f64],
-    len: usize,
-    words: &[u64],
-    paired: &mut [u64],
-) -> Binding
-    requires { ⌜ now paired ≡ replicate 16384 0 ⌝ }
-    ensures { λ r. ⌜ r ≡ after (planInputs (matrixCheck «matrix_nrows» «matrix_ncols» (now («row_ptr» .entry)) (now («col_idx» .entry)) (now (values .entry))) (topologyCheck nrows ncols (now («row_word_ptr» .entry)) (now («row_word_indices» .entry)) (now («row_masks» .entry)) «structural_nnz» «column_nrows» «column_ncols» (now («column_word_ptr» .entry)) (now («column_word_indices» .entry)) (now («column_masks» .entry)) «column_structural_nnz») «matrix_nrows» «matrix_ncols» nrows ncols len (now (words .entry)) (sideHolds (now («row_word_ptr» .entry)) (now («row_word_indices» .entry)) (now («row_masks» .entry))) (stored (now («row_ptr» .entry)) (now («col_idx» .entry)))) (Binding.Bound (countsOf nrows (inMask (now (words .entry))) (sideHolds (now («row_word_ptr» .entry)) (now («row_word_indices» .entry)) (now («row_masks» .entry))) (now («row_ptr» .entry)) (now («col_idx» .entry)))) Binding.Refused ⌝ }
-    ensures marks { λ _. ⌜ (planInputs (matrixCheck «matrix_nrows» «matrix_ncols» (now («row_ptr» .entry)) (now («col_idx» .entry)) (now (values .entry))) (topologyCheck nrows ncols (now («row_word_ptr» .entry)) (now («row_word_indices» .entry)) (now («row_masks» .entry)) «structural_nnz» «column_nrows» «column_ncols» (now («column_word_ptr» .entry)) (now («column_word_indices» .entry)) (now («column_masks» .entry)) «column_structural_nnz») «matrix_nrows» «matrix_ncols» nrows ncols len (now (words .entry)) (sideHolds (now («row_word_ptr» .entry)) (now («row_word_indices» .entry)) (now («row_masks» .entry))) (stored (now («row_ptr» .entry)) (now («col_idx» .entry))) ≡ Checked.Accepted → take (wordsFor nrows) (now (paired .exit)) ≡ maskWords nrows (hasPair nrows (inMask (now (words .entry))) (sideHolds (now («row_word_ptr» .entry)) (now («row_word_indices» .entry)) (now («row_masks» .entry))))) ⌝ }
-{
-    match csr32::validate(matrix_nrows, matrix_ncols, row_ptr, col_idx, values) {
-        Checked::Refused(r) => Binding::Refused(r),
-        Checked::Accepted => match check_region(
-            nrows,
-            ncols,
-            row_word_ptr,
-            row_word_indices,
-            row_masks,
-            structural_nnz,
-            column_nrows,
-            column_ncols,
-            column_word_ptr,
-            column_word_indices,
-            column_masks,
-            column_structural_nnz,
-            matrix_nrows,
-            matrix_ncols,
-            len,
-            words,
-        ) {
-            Checked::Refused(r) => Binding::Refused(r),
-            Checked::Accepted => {
-                let need = mask::inner::words_for(nrows);
-                binding::inner::bind_rows(
-                    nrows,
-                    row_word_ptr,
-                    row_word_indices,
-                    row_masks,
-                    row_ptr,
-                    col_idx,
-                    words,
-                    &mut paired[..need],
-                )
-            }
-        },
-    }
-}
-
 // The local pattern of the region, and for each of its pairs the entries of the matrix that it is summed from.
 pub fn prepare_local_numeric_plan(
     nrows: usize,
@@ -179,59 +111,41 @@ pub fn prepare_local_numeric_plan(
     ensures starts { λ _. ⌜ now («source_ptr» .exit) ≡ sourcePtrLeft (planCheck (planInputs (matrixCheck «matrix_nrows» «matrix_ncols» (now («row_ptr» .entry)) (now («col_idx» .entry)) (now (values .entry))) (topologyCheck nrows ncols (now («row_word_ptr» .entry)) (now («row_word_indices» .entry)) (now («row_masks» .entry)) «structural_nnz» «column_nrows» «column_ncols» (now («column_word_ptr» .entry)) (now («column_word_indices» .entry)) (now («column_masks» .entry)) «column_structural_nnz») «matrix_nrows» «matrix_ncols» nrows ncols len (now (words .entry)) (sideHolds (now («row_word_ptr» .entry)) (now («row_word_indices» .entry)) (now («row_masks» .entry))) (stored (now («row_ptr» .entry)) (now («col_idx» .entry)))) nrows (inMask (now (words .entry))) (sideHolds (now («row_word_ptr» .entry)) (now («row_word_indices» .entry)) (now («row_masks» .entry))) (pairEntries nrows (inMask (now (words .entry))) (sideHolds (now («row_word_ptr» .entry)) (now («row_word_indices» .entry)) (now («row_masks» .entry))) (now («row_ptr» .entry)) (now («col_idx» .entry))) (now («global_nodes» .entry)) (now («local_row_ptr» .entry)) (now («local_col_idx» .entry)) (now («source_ptr» .entry)) (now («source_indices» .entry))) (pairEntries nrows (inMask (now (words .entry))) (sideHolds (now («row_word_ptr» .entry)) (now («row_word_indices» .entry)) (now («row_masks» .entry))) (now («row_ptr» .entry)) (now («col_idx» .entry))) (now («source_ptr» .entry)) ⌝ }
     ensures sources { λ _. ⌜ now («source_indices» .exit) ≡ sourcesLeft (planCheck (planInputs (matrixCheck «matrix_nrows» «matrix_ncols» (now («row_ptr» .entry)) (now («col_idx» .entry)) (now (values .entry))) (topologyCheck nrows ncols (now («row_word_ptr» .entry)) (now («row_word_indices» .entry)) (now («row_masks» .entry)) «structural_nnz» «column_nrows» «column_ncols» (now («column_word_ptr» .entry)) (now («column_word_indices» .entry)) (now («column_masks» .entry)) «column_structural_nnz») «matrix_nrows» «matrix_ncols» nrows ncols len (now (words .entry)) (sideHolds (now («row_word_ptr» .entry)) (now («row_word_indices» .entry)) (now («row_masks» .entry))) (stored (now («row_ptr» .entry)) (now («col_idx» .entry)))) nrows (inMask (now (words .entry))) (sideHolds (now («row_word_ptr» .entry)) (now («row_word_indices» .entry)) (now («row_masks» .entry))) (pairEntries nrows (inMask (now (words .entry))) (sideHolds (now («row_word_ptr» .entry)) (now («row_word_indices» .entry)) (now («row_masks» .entry))) (now («row_ptr» .entry)) (now («col_idx» .entry))) (now («global_nodes» .entry)) (now («local_row_ptr» .entry)) (now («local_col_idx» .entry)) (now («source_ptr» .entry)) (now («source_indices» .entry))) (pairEntries nrows (inMask (now (words .entry))) (sideHolds (now («row_word_ptr» .entry)) (now («row_word_indices» .entry)) (now («row_masks» .entry))) (now («row_ptr» .entry)) (now («col_idx» .entry))) (now («source_indices» .entry)) ⌝ }
 {
-    let mut paired: [u64; 16384] = [0; 16384];
-    match check_inputs(
-        nrows,
-        ncols,
-        row_word_ptr,
-        row_word_indices,
-        row_masks,
-        structural_nnz,
-        column_nrows,
-        column_ncols,
-        column_word_ptr,
-        column_word_indices,
-        column_masks,
-        column_structural_nnz,
-        matrix_nrows,
-        matrix_ncols,
-        row_ptr,
-        col_idx,
-        values,
-        len,
-        words,
-        &mut paired,
-    ) {
-        Binding::Refused(r) => PlanPrepared::Refused(r),
-        Binding::Bound(counts) => match inner::check_room(
-            counts,
-            global_nodes.len(),
-            local_row_ptr.len(),
-            local_col_idx.len(),
-            source_ptr.len(),
-            source_indices.len(),
+    match csr32::validate(matrix_nrows, matrix_ncols, row_ptr, col_idx, values) {
+        Checked::Refused(r) => PlanPrepared::Refused(r),
+        Checked::Accepted => match check_region(
+            nrows,
+            ncols,
+            row_word_ptr,
+            row_word_indices,
+            row_masks,
+            structural_nnz,
+            column_nrows,
+            column_ncols,
+            column_word_ptr,
+            column_word_indices,
+            column_masks,
+            column_structural_nnz,
+            matrix_nrows,
+            matrix_ncols,
+            len,
+            words,
         ) {
             Checked::Refused(r) => PlanPrepared::Refused(r),
-            Checked::Accepted => {
-                let need = mask::inner::words_for(nrows);
-                inner::write(
-                    nrows,
-                    row_word_ptr,
-                    row_word_indices,
-                    row_masks,
-                    words,
-                    &paired[0..need],
-                    row_ptr,
-                    col_idx,
-                    counts.sources,
-                    global_nodes,
-                    local_row_ptr,
-                    local_col_idx,
-                    source_ptr,
-                    source_indices,
-                );
-                PlanPrepared::Prepared(inner::stats(counts))
-            }
+            Checked::Accepted => inner::prepare(
+                nrows,
+                row_word_ptr,
+                row_word_indices,
+                row_masks,
+                words,
+                row_ptr,
+                col_idx,
+                global_nodes,
+                local_row_ptr,
+                local_col_idx,
+                source_ptr,
+                source_indices,
+            ),
         },
     }
 }

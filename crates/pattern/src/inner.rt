@@ -19,6 +19,9 @@ ghost use Rattle.dual_topology.specs.Check.{topologyCheck};
 ghost use Rattle.pattern.specs.Pattern.{numberOf, inside, columnsOf, patternPtr, patternColumns, pairsInside, regionCheck};
 ghost use Rattle.pattern.specs.Steps.{rowKept, regionKept, roomFor, ranksOf, Small, statsOf};
 
+// A table of 256 words' ranks is enough up to this side.
+pub const SMALL_SIDE: usize = 16384;
+
 // The topology, its shape, the mask.
 pub fn check_region(
     nrows: usize,
@@ -246,7 +249,48 @@ pub fn write_row(
     next
 }
 
-// The pattern on lists that reach their needed lengths.
+// The pattern on lists that reach their needed lengths, with room for the table of ranks.
+fn write_ranked(
+    n: usize,
+    row_word_ptr: &[u32],
+    word_indices: &[u32],
+    masks: &[u64],
+    region: &[u64],
+    global_nodes: &mut [u32],
+    row_ptr: &mut [u32],
+    col_idx: &mut [u32],
+    ranks: &mut [u32],
+)
+    requires { ⌜ IsSide n n (now «row_word_ptr») (now «word_indices») (now masks) × IsMask n (now region) × (countBelow n (inMask (now region)) ≤ length (now «global_nodes»)) × (countBelow n (inMask (now region)) < length (now «row_ptr»)) × (pairsInside n (inMask (now region)) (sideHolds (now «row_word_ptr») (now «word_indices») (now masks)) ≤ length (now «col_idx»)) × (wordsFor n ≤ length (now ranks)) ⌝ }
+    ensures members { λ _. ⌜ now («global_nodes» .exit) ≡ over (membersBelow n (inMask (now (region .entry)))) (now («global_nodes» .entry)) ⌝ }
+    ensures pointers { λ _. ⌜ now («row_ptr» .exit) ≡ over (patternPtr n (inMask (now (region .entry))) (sideHolds (now («row_word_ptr» .entry)) (now («word_indices» .entry)) (now (masks .entry)))) (now («row_ptr» .entry)) ⌝ }
+    ensures columns { λ _. ⌜ now («col_idx» .exit) ≡ over (patternColumns n (inMask (now (region .entry))) (sideHolds (now («row_word_ptr» .entry)) (now («word_indices» .entry)) (now (masks .entry)))) (now («col_idx» .entry)) ⌝ }
+{
+    fill_ranks(n, region, ranks);
+    row_ptr[0] = 0;
+    let mut next: usize = 0;
+    let mut k: usize = 0;
+    let mut r = mask::inner::next_member(n, region, 0);
+    while r < n {
+        global_nodes[k] = r as u32;
+        next = write_row(
+            n,
+            row_word_ptr,
+            word_indices,
+            masks,
+            region,
+            ranks,
+            r,
+            col_idx,
+            next,
+        );
+        k += 1;
+        row_ptr[k] = next as u32;
+        r = mask::inner::next_member(n, region, r + 1);
+    }
+}
+
+// The same with a table of its own: a small one for a small side, where to clear the large one would cost more than the rest.
 pub fn write(
     n: usize,
     row_word_ptr: &[u32],
@@ -262,27 +306,31 @@ pub fn write(
     ensures pointers { λ _. ⌜ now («row_ptr» .exit) ≡ over (patternPtr n (inMask (now (region .entry))) (sideHolds (now («row_word_ptr» .entry)) (now («word_indices» .entry)) (now (masks .entry)))) (now («row_ptr» .entry)) ⌝ }
     ensures columns { λ _. ⌜ now («col_idx» .exit) ≡ over (patternColumns n (inMask (now (region .entry))) (sideHolds (now («row_word_ptr» .entry)) (now («word_indices» .entry)) (now (masks .entry)))) (now («col_idx» .entry)) ⌝ }
 {
-    let mut ranks: [u32; 16384] = [0; 16384];
-    fill_ranks(n, region, &mut ranks);
-    row_ptr[0] = 0;
-    let mut next: usize = 0;
-    let mut k: usize = 0;
-    let mut r = mask::inner::next_member(n, region, 0);
-    while r < n {
-        global_nodes[k] = r as u32;
-        next = write_row(
+    if n <= SMALL_SIDE {
+        let mut small: [u32; 256] = [0; 256];
+        write_ranked(
             n,
             row_word_ptr,
             word_indices,
             masks,
             region,
-            &ranks,
-            r,
+            global_nodes,
+            row_ptr,
             col_idx,
-            next,
+            &mut small,
         );
-        k += 1;
-        row_ptr[k] = next as u32;
-        r = mask::inner::next_member(n, region, r + 1);
+        return;
     }
+    let mut large: [u32; 16384] = [0; 16384];
+    write_ranked(
+        n,
+        row_word_ptr,
+        word_indices,
+        masks,
+        region,
+        global_nodes,
+        row_ptr,
+        col_idx,
+        &mut large,
+    );
 }
