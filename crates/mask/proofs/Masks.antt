@@ -222,14 +222,6 @@ zeros-empty n m need e h =
     ∙ take-at (replicate {A = ℕ} need 0) (replicate {A = ℕ} (m - need) 0) need (length-replicate {A = ℕ} need 0)
     ∙ ap (λ (k : ℕ). replicate {A = ℕ} k 0) e ∙ mask-none n
 
--- 16,384 of them are enough
-pub zeros-room : (n need : ℕ) (l : List ℕ) → n ≤ sideLimit → need ≡ wordsFor n → l ≡ replicate {A = ℕ} 16384 0 → need ≤ length l
-zeros-room n need l h e z = omega (arith, ap length z, length-replicate {A = ℕ} 16384 0)
-
--- and what is then written over them is found there
-pub mask-front : (n : ℕ) (p : ℕ → Bool) (words rest : List ℕ) → words ≡ maskWords n p → take (wordsFor n) (words ++ rest) ≡ maskWords n p
-mask-front n p words rest e = take-at words rest (wordsFor n) (ap length e ∙ mask-length n p) ∙ e
-
 -- ---- a mask under another name
 
 pub mask-as : (n m : ℕ) (x y : List ℕ) → n ≡ m → x ≡ y → IsMask m y → IsMask n x

@@ -4,23 +4,26 @@ use mathlib.Core.Bool.{Bool}
 use mathlib.Core.List.{List}
 use Prim.Native.Nat.{ℕ, _^_, _≤_, _<_}
 use native.Mathlib.Omega.{arith}
+use borrow.Author.Tests.{le-leb, lt-ltb}
 use lib.Ieee.{Float}
 use lib.ListN.{length, getD, drop, length-append}
 use Rattle.base.specs.Lists.{over}
 use Rattle.base.specs.Sets.{membersBelow}
+use Rattle.base.specs.declared.Refusal.{Refusal}
 use Rattle.base.specs.declared.Checked.{Checked}
-use Rattle.base.proofs.Checks.{both-passed}
+use Rattle.base.proofs.Checks.{pass, last-pass, both-pass, both-passed, refused-not-accepted}
 use Rattle.base.proofs.Sets.{count-members}
 use Rattle.mask.specs.Mask.{inMask}
 use Rattle.csr32.specs.Matrix.{matrixCheck, stored}
 use Rattle.side.specs.Side.{sideHolds}
 use Rattle.dual_topology.specs.Check.{topologyCheck}
-use Rattle.pattern.specs.Pattern.{patternPtr, patternColumns, nodesLeft, ptrLeft, columnsLeft}
+use Rattle.pattern.specs.Pattern.{patternRoom, patternPtr, patternColumns, nodesLeft, ptrLeft, columnsLeft}
 use Rattle.pattern.proofs.Writing.{ptr-length}
+use Rattle.binding.specs.Binding.{bindingCheck}
 use Rattle.binding.specs.Steps.{sourcesInside}
 use Rattle.gather.specs.Plan.{planSources, planPtr}
 use Rattle.gather.proofs.Plans.{pointers-length}
-use Rattle.numeric_plan.specs.Plan.{pairEntries, planInputs, planCheck, planAnswer, sourcePtrLeft, sourcesLeft}
+use Rattle.numeric_plan.specs.Plan.{pairEntries, planRoom, planInputs, planCheck, planAnswer, sourcePtrLeft, sourcesLeft}
 use Rattle.numeric_plan.specs.declared.AbtmLocalNumericPlanStats.{AbtmLocalNumericPlanStats}
 use Rattle.numeric_plan.specs.declared.PlanPrepared.{PlanPrepared}
 use Rattle.numeric_plan.proofs.Accepted.{accepted-inputs}
@@ -61,6 +64,18 @@ module _ (n : ℕ) (wordPtr indices masks ptr cols words : List ℕ) where
           sources-room = held-long (planSources lists) sources (h .sources-held);
         }
 
+    -- and its checks accept them
+    pub held-accepted : PlanHeld n wordPtr indices masks ptr cols words nodes localPtr localCols sourcePtr sources
+        → planCheck (bindingCheck n (inMask words) (sideHolds wordPtr indices masks) (stored ptr cols)) n (inMask words) (sideHolds wordPtr indices masks) (pairEntries n (inMask words) (sideHolds wordPtr indices masks) ptr cols) nodes localPtr localCols sourcePtr sources ≡ Checked.Accepted
+    unfolding planCheck patternRoom planRoom
+    held-accepted h =
+        let r = held-room h in
+        let f = r .pattern-room in
+        let few : length lists < length sourcePtr = subst (λ (k : ℕ). k < length sourcePtr) (sym (lists-length n p s ptr cols)) (r .pointers-room) in
+        both-pass _ _ (h .inputs .binds)
+        (both-pass _ _ (sym (pass _ _ _ _ (le-leb _ _ (f .nodes-room)) (pass _ _ _ _ (lt-ltb _ _ (f .ptr-room)) (last-pass _ _ _ (le-leb _ _ (f .columns-room)) refl))))
+        (sym (pass _ _ _ _ (lt-ltb _ _ few) (last-pass _ _ _ (le-leb _ _ (r .sources-room)) refl))))
+
     -- other names of the same lists
     pub held-same : (nodes' localPtr' localCols' sourcePtr' sources' : List ℕ) → nodes' ≡ nodes → localPtr' ≡ localPtr → localCols' ≡ localCols → sourcePtr' ≡ sourcePtr → sources' ≡ sources
         → PlanHeld n wordPtr indices masks ptr cols words nodes localPtr localCols sourcePtr sources → PlanHeld n wordPtr indices masks ptr cols words nodes' localPtr' localCols' sourcePtr' sources'
@@ -82,6 +97,11 @@ module _ (n : ℕ) (wordPtr indices masks ptr cols words : List ℕ) where
 pub plan-accepted : (check : Checked) (n : ℕ) (p : ℕ → Bool) (lists : List (List ℕ)) (stats : AbtmLocalNumericPlanStats) → planAnswer check n p lists ≡ PlanPrepared.Prepared stats → (check ≡ Checked.Accepted) × (stats .«source_terms» ≡ length (planSources lists))
 plan-accepted Checked.Accepted n p lists stats e = (refl, cc)
 plan-accepted (Checked.Refused r) n p lists stats e = let z : _≡_ {A = ℕ} 0 1 = cc in absurd (omega arith)
+
+-- accepted checks refuse nothing
+pub plan-made : (check : Checked) (n : ℕ) (p : ℕ → Bool) (lists : List (List ℕ)) (r : Refusal) → check ≡ Checked.Accepted → planAnswer check n p lists ≡ PlanPrepared.Refused r → ⊥
+plan-made Checked.Accepted n p lists r a e = let z : _≡_ {A = ℕ} 0 1 = cc in absurd (omega arith)
+plan-made (Checked.Refused q) n p lists r a e = refused-not-accepted q a
 
 inputs-accepted : (inputs : Checked) (n : ℕ) (p : ℕ → Bool) (s : ℕ → ℕ → Bool) (lists : List (List ℕ)) (nodes ptr cols sourcePtr sources : List ℕ) → planCheck inputs n p s lists nodes ptr cols sourcePtr sources ≡ Checked.Accepted → inputs ≡ Checked.Accepted
 unfolding planCheck

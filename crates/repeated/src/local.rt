@@ -2,26 +2,25 @@
 use crate::Answer;
 use base::Counted;
 use base::Refusal;
-use binding::Binding;
 use numeric_plan::PlanPrepared;
 use pattern::PatternExtracted;
 ghost use mathlib.Core.Path.{_≡_};
 ghost use mathlib.Core.Bool.{true};
 ghost use Prim.Native.Nat.{_-_, _<_, _≤_};
-ghost use lib.ListN.{length, getD, replicate, take};
+ghost use lib.ListN.{length, getD};
 ghost use Rattle.base.specs.Lists.{every, rising, below, over};
 ghost use Rattle.base.specs.Sets.{countBelow, membersBelow};
-ghost use Rattle.mask.specs.Mask.{inMask, wordsFor, maskWords, IsMask};
+ghost use Rattle.mask.specs.Mask.{inMask, IsMask};
 ghost use Rattle.csr32.specs.Matrix.{matrixCheck, stored};
 ghost use Rattle.side.specs.Side.{sideHolds};
 ghost use Rattle.side.specs.Check.{IsSide};
 ghost use Rattle.dual_topology.specs.Check.{topologyCheck};
 ghost use Rattle.pattern.specs.Pattern.{patternCheck, patternAnswer, nodesLeft, ptrLeft, columnsLeft, patternPtr, patternColumns, pairsInside};
-ghost use Rattle.binding.specs.Steps.{sourcesInside, hasPair};
+ghost use Rattle.binding.specs.Steps.{sourcesInside};
 ghost use Rattle.numeric_plan.specs.Plan.{pairEntries, planInputs, planCheck, planAnswer, sourcePtrLeft, sourcesLeft};
 ghost use Rattle.gather.specs.Gather.{gatherCheck, gatherAnswer, gatherLeft, gathered};
 ghost use Rattle.repeated.specs.Repeated.{pairsAnswer, sourcesAnswer, countAnswer, refusedAnswer};
-ghost use Rattle.repeated.specs.Held.{Binds, PlanHeld};
+ghost use Rattle.repeated.specs.Held.{PlanHeld};
 
 fn refused(r: Refusal) -> Answer
     ensures { λ a. ⌜ a ≡ refusedAnswer r ⌝ }
@@ -138,37 +137,6 @@ pub extern "C" fn hybit_repeated_pattern(
     }
 }
 
-// 23 and 24 once more, of rows that bind, and which of them have a pair. The count of their sources.
-fn settle(
-    n: usize,
-    row_word_ptr: &[u32],
-    word_indices: &[u32],
-    masks: &[u64],
-    row_ptr: &[u32],
-    col_idx: &[u32],
-    region: &[u64],
-    paired: &mut [u64],
-) -> usize
-    requires { ⌜ Binds n (now «row_word_ptr») (now «word_indices») (now masks) (now «row_ptr») (now «col_idx») (now region) × (now paired ≡ replicate 16384 0) ⌝ }
-    ensures { λ r. ⌜ r ≡ sourcesInside n (inMask (now (region .entry))) (now («row_ptr» .entry)) (now («col_idx» .entry)) ⌝ }
-    ensures marks { λ _. ⌜ take (wordsFor n) (now (paired .exit)) ≡ maskWords n (hasPair n (inMask (now (region .entry))) (sideHolds (now («row_word_ptr» .entry)) (now («word_indices» .entry)) (now (masks .entry)))) ⌝ }
-{
-    let need = mask::inner::words_for(n);
-    match binding::inner::bind_rows(
-        n,
-        row_word_ptr,
-        word_indices,
-        masks,
-        row_ptr,
-        col_idx,
-        region,
-        &mut paired[..need],
-    ) {
-        Binding::Refused(_) => 0,
-        Binding::Bound(counts) => counts.sources,
-    }
-}
-
 // The plan once more, on lists that hold it: they stay as they are. The count of its sources.
 fn plan_again(
     n: usize,
@@ -192,35 +160,23 @@ fn plan_again(
     ensures starts { λ _. ⌜ now («source_ptr» .exit) ≡ now («source_ptr» .entry) ⌝ }
     ensures entries { λ _. ⌜ now (sources .exit) ≡ now (sources .entry) ⌝ }
 {
-    let mut paired: [u64; 16384] = [0; 16384];
-    let terms = settle(
-        n,
-        row_word_ptr,
-        word_indices,
-        masks,
-        row_ptr,
-        col_idx,
-        region,
-        &mut paired,
-    );
-    let need = mask::inner::words_for(n);
-    numeric_plan::inner::write(
+    match numeric_plan::inner::prepare(
         n,
         row_word_ptr,
         word_indices,
         masks,
         region,
-        &paired[0..need],
         row_ptr,
         col_idx,
-        terms,
         nodes,
         local_ptr,
         local_cols,
         source_ptr,
         sources,
-    );
-    terms
+    ) {
+        PlanPrepared::Refused(_) => 0,
+        PlanPrepared::Prepared(s) => s.source_terms as usize,
+    }
 }
 
 // The plan `times` more, on lists that hold it: they stay as they are. The count of its sources.
