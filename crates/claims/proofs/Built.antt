@@ -27,7 +27,7 @@ use Rattle.side.proofs.Sides.{side-holds, as-many}
 use Rattle.dual_topology.specs.Answers.{buildCheck, countsOf}
 use Rattle.dual_topology.specs.declared.TopologyCounts.{TopologyCounts}
 use Rattle.dual_topology.proofs.Built.{built-topology, built-accepted}
-use Rattle.claims.specs.Runs.{Growth, Ground, plainGround, fieldGround}
+use Rattle.growths.specs.Runs.{Growth, Ground, plainGround, fieldGround}
 use Rattle.claims.specs.Demand.{System, Accepts, Kind, Claim, topologyOf, pairsOf}
 use Rattle.claims.proofs.Demand.{demand-3}
 

@@ -34,9 +34,9 @@ use Rattle.gather.proofs.Plans.{pointers-length, gathered-lists}
 use Rattle.numeric_plan.specs.Plan.{sidesCheck, planInputs, planRoom, planCheck}
 use Rattle.numeric_plan.proofs.Pairs.{lists-length}
 use Rattle.numeric_plan.proofs.Plans.{plan-gathers}
-use Rattle.claims.specs.Runs.{Growth, Ground}
+use Rattle.growths.specs.Runs.{Growth, Ground}
 use Rattle.claims.specs.Demand.{System, Accepts, Kind, Values, matrixOf, topologyOf, pairsOf, entriesStored, patternOf, planOf, planned, gatherOf, entries, valueOf, held, Complete}
-use Rattle.claims.proofs.Runs.{holds-run}
+use Rattle.growths.proofs.Runs.{holds-run}
 use Rattle.claims.proofs.Grounds.{solid, seeds-accepted}
 use Rattle.claims.proofs.Pairs.{listed-pairs}
 

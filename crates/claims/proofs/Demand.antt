@@ -2,9 +2,9 @@
 use mathlib.Core.Path.{_≡_, ap, _∙_}
 use mathlib.Core.List.{List}
 use Rattle.base.specs.declared.Checked.{Checked}
-use Rattle.claims.specs.Runs.{Growth, Ground, checkOf, regionOf}
+use Rattle.growths.specs.Runs.{Growth, Ground, checkOf, regionOf}
 use Rattle.claims.specs.Demand.{System, Accepts, Kind, extracted, planned, gatheredFrom, held, Claim}
-use Rattle.claims.proofs.Runs.{same-region, same-frontier}
+use Rattle.growths.proofs.Runs.{same-region, same-frontier}
 use Rattle.claims.proofs.Grounds.{solid, seeds-accepted}
 use Rattle.claims.proofs.Complete.{complete}
 

@@ -7,10 +7,10 @@ use lib.Dec.{eqb}
 use lib.Ieee.{Float}
 use Rattle.graph.specs.Network.{Network, regionWords}
 use Rattle.claims.specs.Demand.{System, Planned}
-use Rattle.claims.specs.Counts.{seedsAfter}
+use Rattle.growths.specs.Counts.{seedsAfter}
 use Rattle.claims.specs.Cutting.{planCut, cutAnswer, valuesCut}
 use Rattle.claims.specs.Run.{ifGrown}
-use Rattle.claims.specs.declared.Ran.{Ran}
+use Rattle.growths.specs.declared.Ran.{Ran}
 use Rattle.claims.specs.declared.RunAnswer.{RunAnswer}
 
 -- ---- no step goes by the system's first seeds

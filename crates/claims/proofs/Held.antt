@@ -24,16 +24,17 @@ use Rattle.graph.specs.Network.{regionWords, frontierWords}
 use Rattle.graph.proofs.Networks.{region-cap, frontier-cap}
 use Rattle.growth.specs.Lent.{masksRoom}
 use Rattle.numeric_plan.proofs.Binding.{bound}
-use Rattle.claims.specs.Runs.{largest, Growth, Ground, plainGround, fieldGround, Run, begun, checkOf, regionOf, frontierOf, grown, run}
+use Rattle.growths.specs.Runs.{largest, Growth, Ground, plainGround, fieldGround, Run, begun, checkOf, regionOf, frontierOf, grown, run}
 use Rattle.claims.specs.Demand.{System, Accepts, Kind, Claim, topologyOf, pairsOf, held}
-use Rattle.claims.specs.Counts.{takes, acceptedIn, totalIn, lastIn, ranOf, seedsAfter}
+use Rattle.growths.specs.Counts.{takes, acceptedIn, totalIn, lastIn, ranOf, seedsAfter}
 use Rattle.claims.specs.Cutting.{systemOf}
 use Rattle.claims.specs.Run.{squareTopology, arraysCheck, runCheck, fieldRunCheck, ranBy}
-use Rattle.claims.specs.declared.Ran.{Ran}
-use Rattle.claims.proofs.Runs.{holds-run}
-use Rattle.claims.proofs.Grounds.{Solid, solid, run-accepted}
+use Rattle.growths.specs.declared.Ran.{Ran}
+use Rattle.growths.proofs.Runs.{holds-run}
+use Rattle.growths.proofs.Grounds.{Solid, run-accepted}
+use Rattle.claims.proofs.Grounds.{solid}
 use Rattle.claims.proofs.Demand.{demand-3}
-use Rattle.claims.proofs.Growing.{accepted-next, total-next, last-next, room-enough, room-short, some, no-more}
+use Rattle.growths.proofs.Growing.{accepted-next, total-next, last-next, room-enough, room-short, some, no-more}
 use Rattle.claims.proofs.Checking.{accepted-sides, accepted-arrays, accepted-run, accepted-field-run}
 
 -- growth i goes by hops[i] and is lent three lists of rooms[i] words, as far as the shortest reaches; what they hold is left open

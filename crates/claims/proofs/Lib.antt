@@ -1,10 +1,8 @@
-pub mod Runs
 pub mod Grounds
 pub mod Pairs
 pub mod Complete
 pub mod Demand
 pub mod Built
-pub mod Growing
 pub mod Cutting
 pub mod Finishing
 pub mod Checking

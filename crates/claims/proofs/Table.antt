@@ -45,7 +45,7 @@ use Rattle.gather.specs.Gather.{gathered, gatherCheck}
 use Rattle.gather.specs.Plan.{planSources, planPtr}
 use Rattle.numeric_plan.specs.Plan.{pairEntries, planRoom, sidesCheck, planInputs, planCheck}
 use Rattle.numeric_plan.specs.declared.PlanPrepared.{PlanPrepared}
-use Rattle.claims.specs.Runs.{Growth, Ground, plainGround, begun, checkOf, grown, run}
+use Rattle.growths.specs.Runs.{Growth, Ground, plainGround, begun, checkOf, grown, run}
 use Rattle.claims.specs.Demand.{System, Planned, Gathered, matrixOf, topologyOf, pairsOf, planned, gatheredFrom}
 use Rattle.claims.proofs.Built.{builtOf}
 

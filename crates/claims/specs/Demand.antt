@@ -27,7 +27,7 @@ use Rattle.gather.specs.Gather.{sumOf, gathered, gatherCheck, gatherAnswer, gat
 use Rattle.gather.specs.Plan.{planSources, planPtr, direct}
 use Rattle.numeric_plan.specs.Plan.{pairEntries, planInputs, planRoom, planCheck, planAnswer, sourcePtrLeft, sourcesLeft}
 use Rattle.numeric_plan.specs.declared.PlanPrepared.{PlanPrepared}
-use Rattle.claims.specs.Runs.{largest, Growth, Ground, plainGround, fieldGround, Run, begun, checkOf, regionOf, frontierOf, run}
+use Rattle.growths.specs.Runs.{largest, Growth, Ground, plainGround, fieldGround, Run, begun, checkOf, regionOf, frontierOf, run}
 
 -- ---- the inputs
 

@@ -10,8 +10,8 @@ use Rattle.base.specs.declared.Checked.{Checked}
 use Rattle.mask.specs.Mask.{wordsFor, lengthCheck}
 use Rattle.binding.specs.Binding.{bindingCheck}
 use Rattle.numeric_plan.specs.Plan.{sidesCheck}
-use Rattle.claims.specs.Counts.{ranOf}
-use Rattle.claims.specs.declared.Ran.{Ran}
+use Rattle.growths.specs.Counts.{ranOf}
+use Rattle.growths.specs.declared.Ran.{Ran}
 use Rattle.claims.specs.declared.Cut.{Cut}
 use Rattle.claims.specs.declared.RunAnswer.{RunAnswer}
 

@@ -3,6 +3,7 @@
 use base::Checked;
 use base::Counted;
 use base::Refusal;
+use growths::Ran;
 use numeric_plan::PlanPrepared;
 use pattern::PatternExtracted;
 ghost use mathlib.Core.Path.{_≡_};
@@ -12,18 +13,11 @@ ghost use Rattle.dof_layout.specs.Answers.{squareCheck};
 ghost use Rattle.side.specs.Side.{sideHolds};
 ghost use Rattle.dual_topology.specs.Check.{topologyCheck};
 ghost use Rattle.graph.specs.Network.{plainNetwork, fieldNetwork, regionWords};
-ghost use Rattle.claims.specs.Counts.{seedsAfter, regionAfter, frontierAfter, scratchAfter};
+ghost use Rattle.growths.specs.Counts.{seedsAfter, regionAfter, frontierAfter, scratchAfter};
 ghost use Rattle.claims.specs.Cutting.{systemOf, planCut, cutAnswer, valuesCut};
 ghost use Rattle.claims.specs.Run.{squareTopology, arraysCheck, runCheck, fieldRunCheck, ranBy, runAnswer, runLeft};
 
 pub mod inner;
-
-// Of a list of growths: how many were accepted, the total of their counts, the last of their counts.
-pub struct Ran {
-    pub accepted: u64,
-    pub total: u64,
-    pub last: u64,
-}
 
 // What pattern, plan and gather answered on one region.
 pub struct Cut {
@@ -299,7 +293,7 @@ pub fn run_growths(
     ) {
         Checked::Refused(r) => RunAnswer::Refused(r),
         Checked::Accepted => {
-            let ran = inner::grow_list(
+            let ran = growths::inner::grow_list(
                 nrows,
                 ncols,
                 row_word_ptr,
@@ -429,7 +423,7 @@ pub fn run_field_growths(
     ) {
         Checked::Refused(r) => RunAnswer::Refused(r),
         Checked::Accepted => {
-            let ran = inner::grow_field_list(
+            let ran = growths::inner::grow_field_list(
                 nrows,
                 ncols,
                 row_word_ptr,

@@ -25,9 +25,10 @@ use Rattle.growth.specs.Lent.{masksRoom}
 use Rattle.pattern.specs.Pattern.{patternPtr, patternColumns, pairsInside}
 use Rattle.pattern.proofs.Writing.{ptr-length}
 use Rattle.numeric_plan.proofs.Pairs.{pattern-pairs}
-use Rattle.prepared_field_region.specs.Prepared.{localRoom, prepareRoom, prepareInputs, prepareCheck, networkOf, regionOf}
-use Rattle.prepared_field_region.specs.Steps.{Inputs}
-use Rattle.prepared_field_region.proofs.Local.{few-pairs}
+use Rattle.cutting.specs.Cut.{networkOf, regionOf}
+use Rattle.prepared_field_region.specs.Prepared.{localRoom, prepareRoom, prepareInputs, prepareCheck}
+use Rattle.cutting.specs.Steps.{Inputs}
+use Rattle.cutting.proofs.Local.{few-pairs}
 use Rattle.prepared_field_region.specs.declared.PreparedFieldAwareLocalRegion.{PreparedFieldAwareLocalRegion}
 use Rattle.prepared_field_region.specs.declared.RegionPrepared.{RegionPrepared}
 use Rattle.job_text.specs.Answer.{resultLines}

@@ -19,8 +19,8 @@ use Rattle.graph.specs.Network.{frontierWords, hopsCompleted}
 use Rattle.pattern.specs.Pattern.{patternPtr, patternColumns}
 use Rattle.pattern.proofs.Writing.{ptr-length}
 use Rattle.numeric_plan.proofs.Pairs.{pattern-pairs}
-use Rattle.prepared_field_region.specs.Prepared.{networkOf, regionOf}
-use Rattle.prepared_field_region.proofs.Local.{few-pairs}
+use Rattle.cutting.specs.Cut.{networkOf, regionOf}
+use Rattle.cutting.proofs.Local.{few-pairs}
 use Rattle.text_writing.specs.Text.{decimal}
 use Rattle.text_writing.proofs.Digits.{decimal-most}
 use Rattle.text_writing.proofs.Lists.{numbers-most, length-line}

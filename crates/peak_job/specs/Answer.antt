@@ -15,7 +15,7 @@ use Rattle.dof_layout.specs.Layout.{offsetsOf}
 use Rattle.dof_layout.specs.Answers.{squareCheck}
 use Rattle.graph.specs.Network.{hopsCompleted, frontierWords}
 use Rattle.pattern.specs.Pattern.{one, patternPtr, patternColumns}
-use Rattle.prepared_field_region.specs.Prepared.{networkOf, regionOf}
+use Rattle.cutting.specs.Cut.{networkOf, regionOf}
 use Rattle.job_text.specs.Job.{Job, isJob, jobOf}
 use Rattle.job_text.specs.Answer.{resultLines, refusedText}
 

@@ -19,7 +19,7 @@ use Rattle.field_region.specs.Owners.{ownersCheck}
 use Rattle.field_region.proofs.Accepted.{accepted-square}
 use Rattle.field_region.proofs.Owning.{accepted-owners}
 use Rattle.prepared_field_region.specs.Prepared.{localRoom, prepareRoom, prepareInputs, blockOwnersCheck}
-use Rattle.prepared_field_region.specs.Steps.{LocalFits, MasksFit, Inputs}
+use Rattle.cutting.specs.Steps.{LocalFits, MasksFit, Inputs}
 
 -- the layout comes before 18
 pub square-layout : (kinds ids fields components offsets : List ℕ) (nrows ncols : ℕ) → squareCheck kinds ids fields components offsets nrows ncols ≡ Checked.Accepted

@@ -18,9 +18,9 @@ use Rattle.dual_topology.specs.declared.TopologyCounts.{TopologyCounts}
 use Rattle.dual_topology.specs.declared.AbtmDualTopologyStats.{AbtmDualTopologyStats}
 use Rattle.dual_topology.proofs.Built.{built-topology, built-pairs, built-stats}
 use Rattle.prepared_field_region.specs.Prepared.{preparedOf}
-use Rattle.prepared_field_region.specs.Steps.{cutStats}
+use Rattle.cutting.specs.Steps.{cutStats}
 use Rattle.prepared_field_region.specs.declared.PreparedFieldAwareLocalRegion.{PreparedFieldAwareLocalRegion}
-use Rattle.prepared_field_region.specs.declared.RegionCut.{RegionCut}
+use Rattle.cutting.specs.declared.RegionCut.{RegionCut}
 
 -- a part that holds an answer alone
 pub record Own (part : ℕ) (list answer : List ℕ) : Type 0 where

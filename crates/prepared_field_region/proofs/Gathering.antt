@@ -22,9 +22,10 @@ use Rattle.gather.specs.Plan.{planSources, planPtr}
 use Rattle.gather.proofs.Plans.{pointers-length}
 use Rattle.numeric_plan.proofs.Plans.{plan-gathers}
 use Rattle.numeric_plan.specs.declared.AbtmLocalNumericPlanStats.{AbtmLocalNumericPlanStats}
-use Rattle.prepared_field_region.specs.Prepared.{prepareInputs, prepareCheck, regionOf, listsOf, preparedOf, preparedSourcePtr, preparedSources}
+use Rattle.cutting.specs.Cut.{regionOf, listsOf}
+use Rattle.prepared_field_region.specs.Prepared.{prepareInputs, prepareCheck, preparedOf, preparedSourcePtr, preparedSources}
 use Rattle.prepared_field_region.proofs.Accepted.{accepted-matrix}
-use Rattle.prepared_field_region.proofs.Local.{binds}
+use Rattle.cutting.proofs.Local.{binds}
 
 module _ (nrows ncols : ℕ) (ptr cols : List ℕ) (values : List Float) (kinds ids fields components offsets : List ℕ) (len : ℕ) (seeds : List ℕ) (h : ℕ) (room : Checked) where
   -- a call's checks, its plan's statistics, and the entries of each pair

@@ -1,5 +1,4 @@
 pub mod Accepted
 pub mod Built
-pub mod Local
 pub mod Gathering
 pub mod Worked

@@ -29,7 +29,8 @@ use Rattle.pattern.specs.Pattern.{localRow, patternColumns, patternPtr, pairsIn
 use Rattle.sources.specs.Sources.{entriesIn}
 use Rattle.gather.specs.Plan.{planSources, planPtr}
 use Rattle.numeric_plan.specs.Plan.{pairEntries}
-use Rattle.prepared_field_region.specs.Prepared.{localRoom, prepareRoom, prepareInputs, prepareCheck, blockOwnersCheck, networkOf, regionOf, listsOf, preparedOf, prepareAnswer, preparedNodes, preparedPtr, preparedColumns, preparedSourcePtr, preparedSources}
+use Rattle.cutting.specs.Cut.{networkOf, regionOf, listsOf}
+use Rattle.prepared_field_region.specs.Prepared.{localRoom, prepareRoom, prepareInputs, prepareCheck, blockOwnersCheck, preparedOf, prepareAnswer, preparedNodes, preparedPtr, preparedColumns, preparedSourcePtr, preparedSources}
 use Rattle.prepared_field_region.specs.declared.PreparedFieldAwareLocalRegion.{PreparedFieldAwareLocalRegion}
 use Rattle.prepared_field_region.specs.declared.RegionPrepared.{RegionPrepared}
 

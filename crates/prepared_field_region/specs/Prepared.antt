@@ -19,6 +19,7 @@ use Rattle.field_region.specs.Growth.{fieldStats}
 use Rattle.pattern.specs.Pattern.{patternPtr, patternColumns, patternStats}
 use Rattle.gather.specs.Plan.{planSources, planPtr}
 use Rattle.numeric_plan.specs.Plan.{pairEntries, planStats}
+use Rattle.cutting.specs.Cut.{networkOf, regionOf, listsOf}
 use Rattle.prepared_field_region.specs.declared.PreparedFieldAwareLocalRegion.{PreparedFieldAwareLocalRegion}
 use Rattle.prepared_field_region.specs.declared.RegionPrepared.{RegionPrepared}
 
@@ -53,18 +54,6 @@ unfoldable pub blockOwnersCheck : Checked → Checked → Checked → Checked
 blockOwnersCheck matrix square owners = matrix then square then owners
 
 -- ---- what a prepared region holds
-
--- the matrix's pairs under the layout's blocks
-abbrev pub networkOf : List ℕ → List ℕ → List ℕ → Network
-networkOf ptr cols components = fieldNetwork components (stored ptr cols)
-
--- the nodes of the grown region
-abbrev pub regionOf : List ℕ → List ℕ → List ℕ → List ℕ → ℕ → ℕ → Bool
-regionOf ptr cols components seeds h = inMask (regionWords (networkOf ptr cols components) seeds h)
-
--- the entries of each pair inside a region p
-abbrev pub listsOf : ℕ → (ℕ → Bool) → List ℕ → List ℕ → List (List ℕ)
-listsOf n p ptr cols = pairEntries n p (stored ptr cols) ptr cols
 
 abbrev pub preparedOf : ℕ → ℕ → List ℕ → List ℕ → List ℕ → List ℕ → ℕ → PreparedFieldAwareLocalRegion
 preparedOf nrows ncols ptr cols components seeds h =

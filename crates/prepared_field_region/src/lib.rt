@@ -19,7 +19,8 @@ ghost use Rattle.side.specs.Built.{builtPtr, builtWords, builtMasks};
 ghost use Rattle.dual_topology.specs.Answers.{scratch as zeros};
 ghost use Rattle.growth.specs.Lent.{regionLeft, frontierLeft, scratchLeft};
 ghost use Rattle.field_region.specs.Owners.{ownersCheck, ownersAnswer, ownersList};
-ghost use Rattle.prepared_field_region.specs.Prepared.{prepareRoom, prepareInputs, prepareCheck, blockOwnersCheck, networkOf, regionOf, listsOf, preparedOf, prepareAnswer, preparedNodes, preparedPtr, preparedColumns, preparedSourcePtr, preparedSources};
+ghost use Rattle.cutting.specs.Cut.{networkOf, regionOf, listsOf};
+ghost use Rattle.prepared_field_region.specs.Prepared.{prepareRoom, prepareInputs, prepareCheck, blockOwnersCheck, preparedOf, prepareAnswer, preparedNodes, preparedPtr, preparedColumns, preparedSourcePtr, preparedSources};
 
 pub mod inner;
 
@@ -35,18 +36,6 @@ pub struct PreparedFieldAwareLocalRegion {
 pub enum RegionPrepared {
     Prepared(PreparedFieldAwareLocalRegion),
     Refused(Refusal),
-}
-
-// The statistics of a region's pattern and plan.
-pub struct LocalStats {
-    pub pattern: AbtmLocalSubmatrixPatternStats,
-    pub numeric_plan: AbtmLocalNumericPlanStats,
-}
-
-// The same with those of the growth.
-pub struct RegionCut {
-    pub growth: FieldAwareRegionStats,
-    pub local: LocalStats,
 }
 
 impl PreparedFieldAwareLocalRegion {

@@ -8,7 +8,7 @@ use Rattle.base.proofs.Checks.{on-accepted, on-refused, kept, group-pass, group
 use Rattle.csr32.specs.Matrix.{matrixCheck}
 use Rattle.dof_layout.specs.Answers.{squareCheck}
 use Rattle.prepared_field_region.specs.Prepared.{prepareRoom, prepareInputs, prepareCheck}
-use Rattle.prepared_field_region.specs.Steps.{Inputs}
+use Rattle.cutting.specs.Steps.{Inputs}
 use Rattle.prepared_field_region.specs.declared.RegionPrepared.{RegionPrepared}
 use Rattle.prepared_field_region.proofs.Accepted.{accepted-inputs, accepted-room}
 use Rattle.prepared_field_region.proofs.prepare_region.Statement.{statement}

@@ -2,7 +2,7 @@
 use borrow.Author.Needs.{needs}
 use mathlib.Core.Path.{ap, _∙_}
 use Rattle.claims.specs.declared.RunAnswer.{RunAnswer}
-use Rattle.claims.proofs.Growing.{grown-none, grown-some}
+use Rattle.growths.proofs.Growing.{grown-none, grown-some}
 use Rattle.claims.proofs.inner.finish.Statement.{statement}
 use Rattle.claims.proofs.inner.finish.Tie as tie
 

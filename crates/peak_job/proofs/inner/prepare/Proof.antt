@@ -13,7 +13,8 @@ use Rattle.mask.specs.Mask.{wordsFor}
 use Rattle.csr32.specs.Matrix.{matrixCheck}
 use Rattle.dof_layout.specs.Answers.{squareCheck}
 use Rattle.graph.specs.Network.{frontierWords}
-use Rattle.prepared_field_region.specs.Prepared.{prepareRoom, prepareInputs, prepareCheck, networkOf, regionOf}
+use Rattle.cutting.specs.Cut.{networkOf, regionOf}
+use Rattle.prepared_field_region.specs.Prepared.{prepareRoom, prepareInputs, prepareCheck}
 use Rattle.prepared_field_region.specs.declared.PreparedFieldAwareLocalRegion.{PreparedFieldAwareLocalRegion}
 use Rattle.prepared_field_region.proofs.Accepted.{accepted-inputs}
 use Rattle.job_text.specs.Answer.{textAnswer, textLeft}
