@@ -1,5 +1,6 @@
 // What every crate of the port stands on: the numbered refusal, the limits, and scans of a list. Its specs/ and proofs/ hold what all
 // promises are made of: the chain of checks, sets of numbers, and lists written over the front of a lent list.
+#![tactic(auto)]
 ghost use Rattle.std.specs.Prelude.{◌≡◌};
 ghost use Rattle.base.specs.Checks.{plain, refusal_of_length};
 
@@ -15,7 +16,7 @@ pub const ENTRY_LIMIT: usize = 16777216;
 pub const REGION_LIMIT: usize = 65536;
 
 // A refusal: its number in document 01; the figures are expected and actual for 11, else 0 and 0.
-#[derive(Drop)]
+#[derive(Clone, Copy)]
 pub struct Refusal {
     pub number: u32,
     pub expected: u64,
@@ -23,20 +24,20 @@ pub struct Refusal {
 }
 
 // What a check says where there is nothing to answer but acceptance.
-#[derive(Drop)]
+#[derive(Clone, Copy)]
 pub enum Checked {
     Accepted,
     Refused(Refusal),
 }
 
 // Yes or no.
-#[derive(Drop)]
+#[derive(Clone, Copy)]
 pub enum Truth {
     Is(bool),
     Refused(Refusal),
 }
 
-#[derive(Drop)]
+#[derive(Clone, Copy)]
 pub enum Counted {
     Count(u64),
     Refused(Refusal),

@@ -1,12 +1,13 @@
 // Whether the pairs of a topology and the entries of a matrix bind inside a region: refusals 23 and 24 of a numeric plan, by local row. It holds
 // no public call.
+#![tactic(auto)]
 use base::Refusal;
 
 pub mod inner;
 
 // Consecutive entries of a row that lie in one word: their bits, where they end, and of those inside the region how many columns and how many
 // entries.
-#[derive(Drop)]
+#[derive(Clone, Copy)]
 pub struct Run {
     pub bits: u64,
     pub end: usize,
@@ -16,7 +17,7 @@ pub struct Run {
 
 // What one row holds inside the region: whether its words were found to be its entries, its pairs and its entries. Where they were not, nothing
 // is said.
-#[derive(Drop)]
+#[derive(Clone, Copy)]
 pub struct RowRun {
     pub same: bool,
     pub pairs: usize,
@@ -24,20 +25,20 @@ pub struct RowRun {
 }
 
 // What one row that binds holds inside the region.
-#[derive(Drop)]
+#[derive(Clone, Copy)]
 pub struct RowCounts {
     pub pairs: usize,
     pub sources: usize,
 }
 
-#[derive(Drop)]
+#[derive(Clone, Copy)]
 pub enum RowBinding {
     Bound(RowCounts),
     Refused(Refusal),
 }
 
 // What the members' rows hold inside the region.
-#[derive(Drop)]
+#[derive(Clone, Copy)]
 pub struct Counts {
     pub members: usize,
     pub pairs: usize,
@@ -45,13 +46,13 @@ pub struct Counts {
 }
 
 // The same, and whether each row's words were found to be its entries. Where they were not, nothing is said.
-#[derive(Drop)]
+#[derive(Clone, Copy)]
 pub struct MembersRun {
     pub same: bool,
     pub counts: Counts,
 }
 
-#[derive(Drop)]
+#[derive(Clone, Copy)]
 pub enum Binding {
     Bound(Counts),
     Refused(Refusal),

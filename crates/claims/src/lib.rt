@@ -1,5 +1,6 @@
 // Demand 3 as one theorem over the definitions that the public promises cite, document 01's table of worked lines, and functions that run what the
 // theorem speaks of: a list of growths, then pattern, plan and gather on the region that it comes to.
+#![tactic(auto)]
 ghost use Rattle.std.specs.Prelude.{◌≡◌};
 ghost use Rattle.base.specs.Checks.{leaves};
 ghost use Rattle.csr32.specs.Matrix.{matrix_check, stored};
@@ -19,7 +20,7 @@ use pattern::PatternExtracted;
 pub mod inner;
 
 // What pattern, plan and gather answered on one region.
-#[derive(Drop)]
+#[derive(Clone, Copy)]
 pub struct Cut {
     pub pattern: PatternExtracted,
     pub plan: PlanPrepared,
@@ -27,7 +28,7 @@ pub struct Cut {
 }
 
 // With no accepted growth there is no region to cut.
-#[derive(Drop)]
+#[derive(Clone, Copy)]
 pub enum RunAnswer {
     Grown(Ran, Cut),
     NotGrown(Ran),

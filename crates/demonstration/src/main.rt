@@ -1,4 +1,5 @@
 // Prints document 01's own examples of words, matrices, masks, layouts, topologies and regions, as the port answers them, and one list of growths.
+#![tactic(auto)]
 use base::Counted;
 use claims::RunAnswer;
 use hybit_matrix::Answer;

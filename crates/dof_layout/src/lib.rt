@@ -1,5 +1,6 @@
 // A layout of the unknowns: blocks of consecutive nodes, each a kind, an id, a field id and a component count. The functions of
 // FieldAwareDofLayout on lent lists.
+#![tactic(auto)]
 ghost use Rattle.std.specs.Prelude.{◌≡◌};
 ghost use Rattle.dof_layout.specs.Layout.{layout_check};
 ghost use Rattle.dof_layout.specs.Answers.{code_of, kind_answer, new_answer, new_offsets, total_answer, range_answer, locate_answer, square_check, field_answer, field_words};
@@ -9,7 +10,7 @@ use base::{Checked, Counted, Refusal};
 mod blocks;
 pub mod inner;
 
-#[derive(Drop)]
+#[derive(Clone, Copy)]
 pub enum DofEntityKind {
     Node,
     Edge,
@@ -20,20 +21,20 @@ pub enum DofEntityKind {
     Other,
 }
 
-#[derive(Drop)]
+#[derive(Clone, Copy)]
 pub enum Kinded {
     Kind(DofEntityKind),
     Refused(Refusal),
 }
 
 // The block of a node, and which of the block's components the node is.
-#[derive(Drop)]
+#[derive(Clone, Copy)]
 pub struct DofAddress {
     pub block_index: usize,
     pub component: u32,
 }
 
-#[derive(Drop)]
+#[derive(Clone, Copy)]
 pub enum Located {
     At(DofAddress),
     Nothing,
@@ -41,13 +42,13 @@ pub enum Located {
 }
 
 // The nodes from `start` up to `end`.
-#[derive(Drop)]
+#[derive(Clone, Copy)]
 pub struct Range {
     pub start: u64,
     pub end: u64,
 }
 
-#[derive(Drop)]
+#[derive(Clone, Copy)]
 pub enum Ranged {
     Nodes(Range),
     Nothing,

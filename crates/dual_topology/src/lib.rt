@@ -1,5 +1,6 @@
 // Both sides of a topology, `AbtmDualTopology` of the Rust: the rows, and the columns as rows of the transpose. A topology is handed in as two
 // sides, each with its own sizes, lists and pair count; its check finds sides that disagree.
+#![tactic(auto)]
 ghost use Rattle.std.specs.Prelude.{◌≡◌, ◌+◌, length};
 ghost use Rattle.csr32.specs.Matrix.{stored};
 ghost use Rattle.side.specs.Side.{flip, side_holds};
@@ -14,21 +15,21 @@ use word::{AbtmTopologyWord, Selected};
 pub mod inner;
 
 // How many words each side has, and how many pairs both have.
-#[derive(Drop)]
+#[derive(Clone, Copy)]
 pub struct TopologyCounts {
     pub row_words: u64,
     pub column_words: u64,
     pub pairs: u64,
 }
 
-#[derive(Drop)]
+#[derive(Clone, Copy)]
 pub enum TopologyBuilt {
     Built(TopologyCounts),
     Refused(Refusal),
 }
 
 // 32 bits hold each of these of an accepted topology, so that the ratio asks nothing of its caller.
-#[derive(Drop)]
+#[derive(Clone, Copy)]
 pub struct AbtmDualTopologyStats {
     pub nrows: u32,
     pub ncols: u32,
@@ -37,27 +38,27 @@ pub struct AbtmDualTopologyStats {
     pub column_metadata_bytes: u32,
 }
 
-#[derive(Drop)]
+#[derive(Clone, Copy)]
 pub enum DualStated {
     Stats(AbtmDualTopologyStats),
     Refused(Refusal),
 }
 
 // The side that a row belongs to.
-#[derive(Drop)]
+#[derive(Clone, Copy)]
 pub enum RowOf {
     Rows,
     Columns,
 }
 
-#[derive(Drop)]
+#[derive(Clone, Copy)]
 pub enum RowColumn {
     At(u64),
     Nothing,
     Refused(Refusal),
 }
 
-#[derive(Drop)]
+#[derive(Clone, Copy)]
 pub enum RowWord {
     Word(AbtmTopologyWord),
     Nothing,

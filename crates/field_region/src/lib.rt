@@ -1,5 +1,6 @@
 // Regions of whole field blocks, field_region.rs of the Rust: closing a mask to blocks, growth that closes before the first hop and after
 // every hop, and the owner of each block.
+#![tactic(auto)]
 ghost use Rattle.std.specs.Prelude.{◌≡◌};
 ghost use Rattle.side.specs.Side.{side_holds};
 ghost use Rattle.dof_layout.specs.Layout.{total_of};
@@ -16,7 +17,7 @@ use growth::Grown;
 
 pub mod inner;
 
-#[derive(Drop)]
+#[derive(Clone, Copy)]
 pub struct FieldAwareRegionStats {
     pub hops_requested: u64,
     pub hops_completed: u64,
@@ -30,14 +31,14 @@ pub struct FieldAwareRegionStats {
     pub candidate_neighbor_bits: u64,
 }
 
-#[derive(Drop)]
+#[derive(Clone, Copy)]
 pub enum FieldGrown {
     Grown(FieldAwareRegionStats),
     Refused(Refusal),
 }
 
 // A growth, and how many nodes its seeds' blocks hold.
-#[derive(Drop)]
+#[derive(Clone, Copy)]
 pub struct BlocksGrown {
     pub closed_seeds: u64,
     pub grown: Grown,

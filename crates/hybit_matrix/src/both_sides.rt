@@ -13,7 +13,7 @@ use dual_topology::{DualStated, RowColumn, RowOf, RowWord, TopologyBuilt};
 
 // Counts, bytes and the ratio; all 0 on a refusal.
 #[repr(C)]
-#[derive(Drop)]
+#[derive(Clone, Copy)]
 pub struct DualStatsAnswer {
     pub number: u32,
     pub present: bool,
@@ -30,7 +30,7 @@ pub struct DualStatsAnswer {
 
 // How many words each side has, and how many pairs both have.
 #[repr(C)]
-#[derive(Drop)]
+#[derive(Clone, Copy)]
 pub struct BuildAnswer {
     pub number: u32,
     pub present: bool,

@@ -1,4 +1,5 @@
 // The static library: every public call as a C function, its answer as one flat record. Slices pass as a pointer and a length.
+#![tactic(auto)]
 ghost use Rattle.std.specs.Prelude.{◌≡◌, ◌*◌};
 ghost use Rattle.base.specs.Sets.{count_below};
 ghost use Rattle.word.specs.Bits.{bit_at};
@@ -22,7 +23,7 @@ pub mod regions;
 // number: the refusal's number, or 0. present: there is an answer (false after a refusal, and where the answer is none).
 // value: the count, the bit, or 1 for yes and 0 for no.
 #[repr(C)]
-#[derive(Drop)]
+#[derive(Clone, Copy)]
 pub struct Answer {
     pub number: u32,
     pub present: bool,
@@ -33,7 +34,7 @@ pub struct Answer {
 
 // An answer of two numbers, named at each call. The rest is as in `Answer`.
 #[repr(C)]
-#[derive(Drop)]
+#[derive(Clone, Copy)]
 pub struct PairAnswer {
     pub number: u32,
     pub present: bool,

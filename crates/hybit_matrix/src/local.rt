@@ -16,7 +16,7 @@ use pattern::PatternExtracted;
 
 // The statistics of a pattern, and the two ratios that follow from them; all 0 on a refusal.
 #[repr(C)]
-#[derive(Drop)]
+#[derive(Clone, Copy)]
 pub struct PatternAnswer {
     pub number: u32,
     pub present: bool,
@@ -36,7 +36,7 @@ pub struct PatternAnswer {
 
 // The statistics of a plan; all 0 on a refusal.
 #[repr(C)]
-#[derive(Drop)]
+#[derive(Clone, Copy)]
 pub struct PlanAnswer {
     pub number: u32,
     pub present: bool,

@@ -16,7 +16,7 @@ use topology::{SideBuilt, Stated};
 
 // Counts, bytes and the three ratios; all 0 on a refusal.
 #[repr(C)]
-#[derive(Drop)]
+#[derive(Clone, Copy)]
 pub struct TopologyStatsAnswer {
     pub number: u32,
     pub present: bool,

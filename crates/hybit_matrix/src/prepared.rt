@@ -21,7 +21,7 @@ use prepared_field_region::RegionPrepared;
 // The counts of the topology, then the statistics of topology, growth, pattern and plan; a name that two of them have is told apart by a prefix. All
 // 0 and false on a refusal.
 #[repr(C)]
-#[derive(Drop)]
+#[derive(Clone, Copy)]
 pub struct PreparedAnswer {
     pub number: u32,
     pub present: bool,

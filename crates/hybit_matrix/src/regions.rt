@@ -21,7 +21,7 @@ use region::RegionGrown;
 
 // The statistics of a growth, and the two figures that follow from them; all 0 on a refusal.
 #[repr(C)]
-#[derive(Drop)]
+#[derive(Clone, Copy)]
 pub struct GrowthAnswer {
     pub number: u32,
     pub present: bool,
@@ -41,7 +41,7 @@ pub struct GrowthAnswer {
 
 // The statistics of a field growth; all 0 on a refusal.
 #[repr(C)]
-#[derive(Drop)]
+#[derive(Clone, Copy)]
 pub struct FieldGrowthAnswer {
     pub number: u32,
     pub present: bool,
@@ -61,7 +61,7 @@ pub struct FieldGrowthAnswer {
 
 // The statistics of the regions; all 0 on a refusal.
 #[repr(C)]
-#[derive(Drop)]
+#[derive(Clone, Copy)]
 pub struct MultiplicityAnswer {
     pub number: u32,
     pub present: bool,

@@ -1,8 +1,9 @@
 // The text of a job and of its answer, document 01: the six lines of a job and what they ask, and the lines that answer it.
+#![tactic(auto)]
 pub mod inner;
 
 // Whether a text is a job, its two numbers, and how long its four lists are.
-#[derive(Drop)]
+#[derive(Clone, Copy)]
 pub struct JobRead {
     pub good: bool,
     pub size: u64,
@@ -14,7 +15,7 @@ pub struct JobRead {
 }
 
 // The lines of blocks, ptr and cols: whether they are these, how long the lists are, and where the next line starts.
-#[derive(Drop)]
+#[derive(Clone, Copy)]
 pub struct ListsRead {
     pub good: bool,
     pub blocks: usize,

@@ -1,5 +1,6 @@
 // How many regions hold each node, and the weight of a region at a node: `region_multiplicity` of region.rs, and document 01's weight. The
 // regions stand one after the other in a flat list of words, each a mask of all nodes.
+#![tactic(auto)]
 ghost use Rattle.std.specs.Prelude.{◌≡◌};
 ghost use Rattle.multiplicity.specs.Multiplicity.{regions_check, multiplicity_check, multiplicity_answer, multiplicity_counts, weight_check, weight_answer};
 
@@ -8,7 +9,7 @@ use base::{Checked, Counted, Refusal};
 pub mod inner;
 
 // The Rust's three methods are fields: to f64 goes only what is known to be below 2^53.
-#[derive(Drop)]
+#[derive(Clone, Copy)]
 pub struct AbtmRegionMultiplicityStats {
     pub region_count: u64,
     pub node_count: u64,
@@ -22,7 +23,7 @@ pub struct AbtmRegionMultiplicityStats {
     pub overlap_fraction_on_covered: f64,
 }
 
-#[derive(Drop)]
+#[derive(Clone, Copy)]
 pub enum RegionsCounted {
     Stats(AbtmRegionMultiplicityStats),
     Refused(Refusal),

@@ -1,4 +1,5 @@
 // The numeric plan of a region, region.rs of the Rust: for each pair of the local pattern its entries in stored order, as they stand in the matrix.
+#![tactic(auto)]
 ghost use Rattle.std.specs.Prelude.{◌≡◌};
 ghost use Rattle.base.specs.Checks.{◌then◌};
 ghost use Rattle.mask.specs.Mask.{in_mask};
@@ -12,7 +13,7 @@ use base::{Checked, Refusal};
 
 pub mod inner;
 
-#[derive(Drop)]
+#[derive(Clone, Copy)]
 pub struct AbtmLocalNumericPlanStats {
     pub local_nodes: u32,
     pub local_nnz: u32,
@@ -22,7 +23,7 @@ pub struct AbtmLocalNumericPlanStats {
     pub plan_bytes: u32,
 }
 
-#[derive(Drop)]
+#[derive(Clone, Copy)]
 pub enum PlanPrepared {
     Prepared(AbtmLocalNumericPlanStats),
     Refused(Refusal),

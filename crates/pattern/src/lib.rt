@@ -1,4 +1,5 @@
 // The local system of a region, region.rs of the Rust: its members, and each stored pair with both ends inside once, numbered by member.
+#![tactic(auto)]
 ghost use Rattle.std.specs.Prelude.{◌≡◌};
 ghost use Rattle.mask.specs.Mask.{in_mask};
 ghost use Rattle.side.specs.Side.{side_holds};
@@ -9,7 +10,7 @@ use base::{Checked, Refusal};
 
 pub mod inner;
 
-#[derive(Drop)]
+#[derive(Clone, Copy)]
 pub struct AbtmLocalSubmatrixPatternStats {
     pub global_nodes: u32,
     pub local_nodes: u32,
@@ -21,14 +22,14 @@ pub struct AbtmLocalSubmatrixPatternStats {
     pub pattern_bytes: u32,
 }
 
-#[derive(Drop)]
+#[derive(Clone, Copy)]
 pub enum PatternExtracted {
     Extracted(AbtmLocalSubmatrixPatternStats),
     Refused(Refusal),
 }
 
 // What one row's words hold: how many there are, their set bits, and those inside the region.
-#[derive(Drop)]
+#[derive(Clone, Copy)]
 pub struct RowKept {
     pub words: usize,
     pub candidates: usize,
@@ -36,7 +37,7 @@ pub struct RowKept {
 }
 
 // The same of all members' rows.
-#[derive(Drop)]
+#[derive(Clone, Copy)]
 pub struct RegionKept {
     pub members: usize,
     pub words: usize,

@@ -1,4 +1,5 @@
 // The job program of document 01: a job's text on standard input, its answer on standard output, and nothing else.
+#![tactic(auto)]
 use base::Counted;
 
 // One byte more than a job may have is read, so that a longer text is told apart. The list takes the longest answer (`answer-short` of peak_job).

@@ -1,5 +1,6 @@
 // A region prepared from a matrix, a layout and seeds, prepared_field_region.rs of the Rust: the topology is built, the region grown, its pattern and
 // its numeric plan made, after one check. What the Rust keeps in a `PreparedFieldAwareTopology` are plain arguments here.
+#![tactic(auto)]
 ghost use Rattle.std.specs.Prelude.{◌≡◌, ◌+◌, length};
 ghost use Rattle.csr32.specs.Matrix.{matrix_check, stored};
 ghost use Rattle.dof_layout.specs.Layout.{total_of};
@@ -21,7 +22,7 @@ use pattern::AbtmLocalSubmatrixPatternStats;
 pub mod inner;
 
 // What is known of a prepared region beside its lists: the counts of the topology's words and pairs, and the statistics of each step.
-#[derive(Drop)]
+#[derive(Clone, Copy)]
 pub struct PreparedFieldAwareLocalRegion {
     pub counts: TopologyCounts,
     pub topology: AbtmDualTopologyStats,
@@ -30,7 +31,7 @@ pub struct PreparedFieldAwareLocalRegion {
     pub numeric_plan: AbtmLocalNumericPlanStats,
 }
 
-#[derive(Drop)]
+#[derive(Clone, Copy)]
 pub enum RegionPrepared {
     Prepared(PreparedFieldAwareLocalRegion),
     Refused(Refusal),

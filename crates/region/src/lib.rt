@@ -1,4 +1,5 @@
 // Regions of a topology's graph, region.rs of the Rust: growth hop by hop over rows and columns.
+#![tactic(auto)]
 ghost use Rattle.std.specs.Prelude.{◌≡◌};
 ghost use Rattle.side.specs.Side.{side_holds};
 ghost use Rattle.dual_topology.specs.Check.{topology_check};
@@ -8,7 +9,7 @@ ghost use Rattle.region.specs.Growth.{grow_check, grow_answer, words_visited, no
 
 use base::{Checked, Refusal};
 
-#[derive(Drop)]
+#[derive(Clone, Copy)]
 pub struct AbtmRegionGrowthStats {
     pub hops_requested: u64,
     pub hops_completed: u64,
@@ -20,7 +21,7 @@ pub struct AbtmRegionGrowthStats {
     pub candidate_neighbor_bits: u64,
 }
 
-#[derive(Drop)]
+#[derive(Clone, Copy)]
 pub enum RegionGrown {
     Grown(AbtmRegionGrowthStats),
     Refused(Refusal),

@@ -1,5 +1,6 @@
 // For the benchmark only: a growth, a closing, a pattern, a plan or a gather made many times after one check of its inputs, so that its own time
 // can be told from the time of the checks. It leaves and answers what one call does. No part of the static library.
+#![tactic(auto)]
 ghost use Rattle.std.specs.Prelude.{◌≡◌, false, ◌≤◌, length};
 ghost use Rattle.base.specs.Checks.{side_limit};
 ghost use Rattle.mask.specs.Mask.{words_needed, mask_words, IsMask};
@@ -24,7 +25,7 @@ pub mod local;
 
 // The value: the hops completed, or the count of nodes, of pairs or of sources.
 #[repr(C)]
-#[derive(Drop)]
+#[derive(Clone, Copy)]
 pub struct Answer {
     pub number: u32,
     pub present: bool,

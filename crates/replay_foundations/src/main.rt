@@ -1,5 +1,6 @@
 // Replays recorded answers of the original Rust: records of 448 bytes on standard input, each a call, and for each an answer record of 168
 // bytes on standard output. oracle/README.md says what a record holds and how the records are made.
+#![tactic(auto)]
 ghost use Rattle.std.specs.Prelude.{◌≡◌, ◌≤◌, length};
 
 use hybit_matrix::Answer;

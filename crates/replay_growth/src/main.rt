@@ -1,5 +1,6 @@
 // Replays recorded answers of the original Rust to the calls on regions: records of 2,376 bytes on standard input, each a call, and for
 // each an answer record of 848 bytes on standard output. oracle/README.md says what a record holds and how the records are made.
+#![tactic(auto)]
 ghost use Rattle.std.specs.Prelude.{◌≡◌, ◌+◌, ◌≤◌, length};
 
 use hybit_matrix::Answer;
@@ -97,7 +98,7 @@ fn counted(a: MultiplicityAnswer) -> [u64; 14] {
 // ---- parts of a record
 
 // The numbers of a growth's record.
-#[derive(Drop)]
+#[derive(Clone, Copy)]
 struct Sizes {
     nrows: usize,
     ncols: usize,

@@ -1,5 +1,6 @@
 // Replays recorded answers of the original Rust to the calls of a layout: records of 856 bytes on standard input, each a call, and for each
 // an answer record of 176 bytes on standard output. oracle/README.md says what a record holds and how the records are made.
+#![tactic(auto)]
 ghost use Rattle.std.specs.Prelude.{◌≡◌, ◌≤◌, length};
 
 use hybit_matrix::{Answer, PairAnswer};

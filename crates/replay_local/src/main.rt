@@ -1,6 +1,7 @@
 // Replays recorded answers of the original Rust to the calls on the local system of a region: records of 2,160 bytes on standard input,
 // each a call, and for each an answer record of 880 bytes on standard output. oracle/README.md says what a record holds and how the
 // records are made.
+#![tactic(auto)]
 ghost use Rattle.std.specs.Prelude.{◌≡◌, length};
 
 use hybit_matrix::Answer;
@@ -79,7 +80,7 @@ fn prepared(a: PlanAnswer) -> [u64; 14] {
 // ---- parts of a record
 
 // A topology's numbers.
-#[derive(Drop)]
+#[derive(Clone, Copy)]
 struct Sizes {
     nrows: usize,
     ncols: usize,

@@ -1,5 +1,6 @@
 // Replays recorded answers of the original Rust to the calls on topologies: records of 4,648 bytes on standard input, each a call, and for
 // each an answer record of 3,168 bytes on standard output. oracle/README.md says what a record holds and how the records are made.
+#![tactic(auto)]
 ghost use Rattle.std.specs.Prelude.{◌≡◌, ◌≤◌, length};
 
 use hybit_matrix::both_sides::{BuildAnswer, DualStatsAnswer};
@@ -11,7 +12,7 @@ use records::inner::{
 };
 
 // Rows, columns and pairs of a side, as the record gives them.
-#[derive(Drop)]
+#[derive(Clone, Copy)]
 struct Shape {
     nrows: usize,
     ncols: usize,

@@ -1,5 +1,6 @@
 // One side of a topology: for each row the 64-bit words that hold at least one of its columns. Its definition as the side of a set of pairs,
 // its faults told apart, and the work on its rows. The calls of the API stand in the crates above.
+#![tactic(auto)]
 ghost use Rattle.std.specs.Prelude.{◌≡◌};
 ghost use Rattle.side.specs.Check.{fault_check};
 
@@ -9,28 +10,28 @@ use word::AbtmTopologyWord;
 pub mod inner;
 
 // Where a bad word stands: its row, and its position in the list of words.
-#[derive(Drop)]
+#[derive(Clone, Copy)]
 pub struct BadWord {
     pub row: u64,
     pub position: u64,
 }
 
 // How many words and pairs a side has.
-#[derive(Drop)]
+#[derive(Clone, Copy)]
 pub struct SideCounts {
     pub words: u64,
     pub pairs: u64,
 }
 
 // A word of a row, or none.
-#[derive(Drop)]
+#[derive(Clone, Copy)]
 pub enum WordAt {
     Word(AbtmTopologyWord),
     Nothing,
 }
 
 // The first fault of a side or of two: lengths, pointers or pair count of a side; a word; sides that disagree.
-#[derive(Drop)]
+#[derive(Clone, Copy)]
 pub enum Fault {
     Sound,
     Lists,

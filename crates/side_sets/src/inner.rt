@@ -11,7 +11,7 @@ use side::SideCounts;
 use word::Operation;
 
 // A word's mask in a row, 0 where the row does not have it, and the place of the row's next word.
-#[derive(Drop)]
+#[derive(Clone, Copy)]
 struct Taken {
     mask: u64,
     next: usize,

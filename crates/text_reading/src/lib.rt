@@ -1,22 +1,23 @@
 // Numbers, lists of numbers and lines of a text: whether the bytes are one, and which. The work is in `inner`; nothing is assumed of the bytes.
+#![tactic(auto)]
 pub mod inner;
 
 // Whether the bytes are a number, and which; 0 where they are none.
-#[derive(Drop)]
+#[derive(Clone, Copy)]
 pub struct Number {
     pub good: bool,
     pub value: u64,
 }
 
 // Whether the bytes are a list of numbers, and of how many.
-#[derive(Drop)]
+#[derive(Clone, Copy)]
 pub struct Listed {
     pub good: bool,
     pub count: usize,
 }
 
 // Whether the first line has the key and a newline, from where to where its value stands, and where the next line starts.
-#[derive(Drop)]
+#[derive(Clone, Copy)]
 struct Line {
     good: bool,
     from: usize,
@@ -25,7 +26,7 @@ struct Line {
 }
 
 // A line whose value is a number, and where the next one starts.
-#[derive(Drop)]
+#[derive(Clone, Copy)]
 pub struct NumberLine {
     pub good: bool,
     pub value: u64,
@@ -33,7 +34,7 @@ pub struct NumberLine {
 }
 
 // A line whose value is a list of so many numbers, and where the next one starts.
-#[derive(Drop)]
+#[derive(Clone, Copy)]
 pub struct ListLine {
     pub good: bool,
     pub count: usize,

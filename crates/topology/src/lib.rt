@@ -1,5 +1,6 @@
 // One side of a topology, `AbtmTopology` of the Rust: its check, its statistics, building it from a matrix, and set operations on two sides.
 // A side is handed in as its two sizes, its three lists and its pair count.
+#![tactic(auto)]
 ghost use Rattle.std.specs.Prelude.{◌≡◌, ◌+◌, length};
 ghost use Rattle.csr32.specs.Matrix.{stored};
 ghost use Rattle.word.specs.Answers.{on};
@@ -16,7 +17,7 @@ use side::SideCounts;
 use word::{AbtmTopologyWord, Operation};
 
 // 32 bits hold each of these of an accepted side, so the ratios ask nothing of their caller.
-#[derive(Drop)]
+#[derive(Clone, Copy)]
 pub struct AbtmTopologyStats {
     pub nrows: u32,
     pub ncols: u32,
@@ -25,13 +26,13 @@ pub struct AbtmTopologyStats {
     pub metadata_bytes: u32,
 }
 
-#[derive(Drop)]
+#[derive(Clone, Copy)]
 pub enum SideBuilt {
     Built(SideCounts),
     Refused(Refusal),
 }
 
-#[derive(Drop)]
+#[derive(Clone, Copy)]
 pub enum Stated {
     Stats(AbtmTopologyStats),
     Refused(Refusal),

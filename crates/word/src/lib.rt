@@ -1,5 +1,6 @@
 // A word of a topology row: 64 columns, bit i of the mask for column word_index * 64 + i. The laws of bits stand in proofs/, once for all
 // crates above.
+#![tactic(auto)]
 ghost use Rattle.std.specs.Prelude.{◌≡◌, ◌*◌};
 ghost use Rattle.base.specs.Sets.{count_below};
 ghost use Rattle.word.specs.Bits.{bit_at, word_from};
@@ -7,20 +8,20 @@ ghost use Rattle.word.specs.Answers.{contains_answer, rank_answer, select_answer
 
 use base::Refusal;
 
-#[derive(Drop)]
+#[derive(Clone, Copy)]
 pub enum Ranked {
     At(usize),
     Refused(Refusal),
 }
 
-#[derive(Drop)]
+#[derive(Clone, Copy)]
 pub enum Selected {
     At(usize),
     Nothing,
 }
 
 // An operation on two words, bit by bit.
-#[derive(Drop)]
+#[derive(Clone, Copy)]
 pub enum Operation {
     Union,
     Intersection,
@@ -41,7 +42,7 @@ impl Operation {
     }
 }
 
-#[derive(Drop)]
+#[derive(Clone, Copy)]
 pub struct AbtmTopologyWord {
     pub word_index: u32,
     pub mask: u64,
