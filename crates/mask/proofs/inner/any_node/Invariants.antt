@@ -1,0 +1,16 @@
+-- `mask::inner::any_node` meets its contract. The invariant: no node below word w. Assumes nothing.
+use Prim.Native.Nat.{◌-◌, ◌*◌, ◌≤◌, ◌<◌}
+use native.Mathlib.Omega.{arith}
+use lib.ListN.{length, get_or}
+use Rattle.base.proofs.Sets.{None}
+use Rattle.mask.specs.Mask.{in_mask}
+use Rattle.mask.proofs.Masks.{in-word, is-fits}
+use Rattle.word.proofs.Turns.{none-turn, some_turn}
+use Rattle.mask.proofs.Passes.{any_found, any-over}
+use Rattle.mask.proofs.inner.any_node.Given as goal
+
+abbrev pub invariant-loop-w : goal.invariant-loop-w
+invariant-loop-w l = (l.w ≤ length l.words) × None (in_mask l.words) (64 * l.w)
+
+abbrev pub decreases-loop-w : goal.decreases-loop-w
+decreases-loop-w l = length l.words - l.w

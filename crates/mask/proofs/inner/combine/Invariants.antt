@@ -1,0 +1,22 @@
+-- `mask::inner::combine` meets its contract. The invariant: the first w words are those of the result. Assumes nothing.
+use mathlib.Core.Path.{◌≡◌, refl, sym, ap, ◌∙◌}
+use mathlib.Core.List.{List}
+use Prim.Native.Nat.{ℕ, ◌-◌, ◌≤◌, ◌<◌}
+use native.Mathlib.Omega.{arith}
+use lib.ListN.{length, get_or, length-set}
+use Rattle.base.specs.Lists.{written}
+use Rattle.base.proofs.Lists.{put_next, put_whole, put-ahead}
+use Rattle.word.specs.Bits.{bit_at, word_from}
+use Rattle.word.specs.Answers.{on}
+use Rattle.mask.specs.Mask.{in_mask}
+use Rattle.mask.specs.Answers.{combined}
+use Rattle.mask.proofs.Masks.{mask-length, is-length}
+use Rattle.mask.proofs.Passes.{op-turn}
+use borrow.Author.Rules.{rules}
+use Rattle.mask.proofs.inner.combine.Given as goal
+
+abbrev pub invariant-loop-w : goal.invariant-loop-w
+invariant-loop-w l = (l.w ≤ length l.initial.words) × (length l.words ≡ length l.initial.words) × (l.words ≡ written l.w (combined (on l.op) l.len l.initial.words l.other) l.initial.words)
+
+abbrev pub decreases-loop-w : goal.decreases-loop-w
+decreases-loop-w l = length l.initial.words - l.w

@@ -1,0 +1,20 @@
+-- `text_writing::inner::put_decimal` meets its contract. The invariant: the digits behind those of what is left are put. Assumes nothing.
+use mathlib.Core.Path.{◌≡◌, refl, sym, ap, ◌∙◌}
+use mathlib.Core.List.{List, [], ◌∷◌, ◌++◌, append-nil, append_assoc}
+use Prim.Native.Nat.{ℕ, ◌+◌, ◌-◌, ◌/◌, ◌%◌, ◌^◌, ◌≤◌, ◌<◌}
+use native.Mathlib.Omega.{arith}
+use lib.ListN.{length, set, length-set, length-append}
+use Rattle.base.specs.Lists.{placed}
+use Rattle.base.proofs.Lists.{placed-none}
+use Rattle.text_writing.specs.Text.{digit, decimal}
+use Rattle.text_writing.proofs.Digits.{decimal-one, decimal-more, decimal-some, length_more}
+use Rattle.text_writing.proofs.Lists.{placed-ahead}
+use Rattle.text_writing.proofs.inner.put_decimal.Given as goal
+
+abbrev pub invariant-loop-left : goal.invariant-loop-left
+invariant-loop-left l =
+    (l.left < 18446744073709551616) × (length l.out ≡ length l.initial.out) × (l.place + 1 ≡ l.at + length (decimal l.left))
+    × ((put : List ℕ) × (decimal l.n ≡ decimal l.left ++ put) × (l.out ≡ placed (l.place + 1) put l.initial.out))
+
+abbrev pub decreases-loop-left : goal.decreases-loop-left
+decreases-loop-left l = l.left

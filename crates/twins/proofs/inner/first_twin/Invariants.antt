@@ -1,0 +1,14 @@
+-- `twins::inner::first_twin` meets its contract. The invariant: no block before `twin` that is of an earlier class repeats a key. Assumes nothing.
+use mathlib.Core.Path.{◌≡◌, sym}
+use Prim.Native.Nat.{ℕ, ◌+◌, ◌-◌, ◌≤◌, ◌<◌}
+use native.Mathlib.Omega.{arith}
+use borrow.Author.Rules.{rules}
+use Rattle.twins.specs.Keys.{Twin}
+use Rattle.twins.proofs.Tables.{twin-next, twin-first}
+use Rattle.twins.proofs.inner.first_twin.Given as goal
+
+abbrev pub invariant-loop-class : goal.invariant-loop-class
+invariant-loop-class l = Twin l.kinds l.ids l.fields l.last 0 l.class l.count l.twin × (l.class ≤ l.last + 1)
+
+abbrev pub decreases-loop-class : goal.decreases-loop-class
+decreases-loop-class l = l.last + 1 - l.class

@@ -1,0 +1,32 @@
+-- `twins::keys::rises` meets its contract. The invariant: the last block before b is the highest of them, and none repeats a key. Assumes nothing.
+use mathlib.Core.Path.{◌≡◌, sym, ◌∙◌}
+use mathlib.Core.Bool.{false}
+use Prim.Native.Nat.{ℕ, ◌-◌, ◌≤◌, ◌<◌}
+use native.Mathlib.Omega.{arith}
+use borrow.Author.Rules.{rules}
+use Rattle.base.proofs.Bools.{T_of}
+use Rattle.base.proofs.Checks.{call-yes}
+use Rattle.base.proofs.Sets.{any_none, below_next}
+use Rattle.twins.specs.Keys.{same_key, repeated, Highest}
+use Rattle.twins.proofs.Orders.{highest-first, highest-last, skip}
+use Rattle.twins.proofs.Tables.{no-twin}
+use Rattle.twins.proofs.keys.rises.Goals as goal
+
+pub loop-b-init : goal.loop-b-init
+loop-b-init c = (omega arith, highest-first _ _ _, λ a l. any_none a (λ d. same_key _ _ _ d a) (λ d h t. absurd (omega arith)))
+
+pub above-requires : goal.above-requires
+above-requires c = (c.requires.0, omega (arith, c.requires.1), omega (arith, c.requires.1))
+
+pub returns-then-not-above : goal.returns-then-not-above
+returns-then-not-above c = λ e. absurd (T_of _ e)
+
+pub loop-b-preserved : goal.loop-b-preserved
+loop-b-preserved c =
+    let l = c.loop-b in
+    let s = c.args in
+    let e = (sym c.above.ensures ∙ c.if-not-above.false) in
+    (omega arith, highest-last _ _ _ l.b l.invariant.1 e, below_next (λ a. repeated s.kinds.now s.ids.now s.fields.now a ≡ false) l.b l.invariant.2 (skip _ _ _ l.b (l.b - 1) l.invariant.1 e))
+
+pub returns : goal.returns
+returns c = λ e. no-twin _ _ _ _ (λ a l. c.loop-b.invariant.2 a (omega arith))
