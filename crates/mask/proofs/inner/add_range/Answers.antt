@@ -9,7 +9,7 @@ use Rattle.mask.specs.Mask.{words_needed, mask_words}
 use Rattle.mask.proofs.Masks.{is-length}
 use Rattle.mask.proofs.Stores.{ranged, range_none, range-turn, range-done}
 use borrow.Author.Rules.{rules}
-use Rattle.mask.proofs.inner.add_range.Goals.{At-loop-w, In-loop-w}
+use Rattle.mask.proofs.inner.add_range.Goals.{In-loop-w}
 use Rattle.mask.proofs.inner.add_range.Goals as goal
 
 pub words_for-stop-requires : goal.words_for-stop-requires
@@ -28,14 +28,14 @@ bits_below-requires-in-loop-w c = (omega (arith, c.requires.1, c.requires.0.shor
 inside : (c : In-loop-w) → c.loop-w.w < words_needed c.args.len
 inside c = omega (arith, c.requires.1, c.loop-w-test.true, c.words_for-stop.ensures)
 
-room : (c : At-loop-w) → c.loop-w.w < length c.loop-w.words
-room c = omega (arith, inside (goal.at.At-loop-w c).In-loop-w, c.loop-w.invariant.1, is-length _ _ c.requires.0)
+room : (c : In-loop-w) → c.loop-w.w < length c.loop-w.words
+room c = omega (arith, inside c, c.loop-w.invariant.1, is-length _ _ c.requires.0)
 
 pub bounds-words-w : goal.bounds-words-w
-bounds-words-w c = room (goal.at.bounds-words-w c).At-loop-w
+bounds-words-w c = room (goal.at.bounds-words-w c).In-loop-w
 
 pub bounds-words-w-in-loop-w : goal.bounds-words-w-in-loop-w
-bounds-words-w-in-loop-w c = room (goal.at.bounds-words-w-in-loop-w c).At-loop-w
+bounds-words-w-in-loop-w c = room (goal.at.bounds-words-w-in-loop-w c).In-loop-w
 
 pub loop-w-preserved : goal.loop-w-preserved
 loop-w-preserved c =
