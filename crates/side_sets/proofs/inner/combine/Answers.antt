@@ -98,7 +98,7 @@ offset_bounds-row_word_ptr-next c = omega (arith, c.loop-row-test.true, (start (
 
 pub bounds-row_word_ptr-next : goal.bounds-row_word_ptr-next
 bounds-row_word_ptr-next c =
-    omega (arith, c.loop-row-test.true, (start (goal.at.bounds-row_word_ptr-next c).At-loop-row).requires.2, c.loop-row.invariant.ptr_kept.long, length-set (start (goal.at.bounds-row_word_ptr-next c).At-loop-row).args.row_word_ptr.now 0 0)
+    omega (arith, c.loop-row-test.true, (start (goal.at.bounds-row_word_ptr-next c).Start).requires.2, c.loop-row.invariant.ptr_kept.long, length-set (start (goal.at.bounds-row_word_ptr-next c).Start).args.row_word_ptr.now 0 0)
 
 pub loop-row-smaller : goal.loop-row-smaller
 loop-row-smaller c = omega (arith, c.loop-row-test.true)
