@@ -6,6 +6,7 @@ use native.Mathlib.Omega.{arith}
 use borrow.Author.Rules.{rules}
 use Rattle.multiplicity.specs.Multiplicity.{multiplicity_of}
 use Rattle.multiplicity.proofs.Counts.{mult-none, mult-le, mult-in, mult-out}
+use Rattle.multiplicity.proofs.inner.multiplicity.Goals.{else-region_holds, then-region_holds}
 use Rattle.multiplicity.proofs.inner.multiplicity.Goals as goal
 
 pub loop-q-init : goal.loop-q-init
@@ -21,7 +22,7 @@ pub loop-q-preserved : goal.loop-q-preserved
 loop-q-preserved c =
     let l = c.loop-q in (
       omega arith,
-      ⊎_elim (λ w. w.1 ∙ mult-in _ _ _ _ _ _ c.region_holds.ensures w.0.taken l.invariant.1) (λ w. w.1 ∙ mult-out _ _ _ _ _ _ c.region_holds.ensures w.0.left l.invariant.1) c.if-region_holds.branch,
+      elim c.if-region_holds.branch [ then-region_holds w ↦ w.m-is ∙ mult-in _ _ _ _ _ _ c.region_holds.ensures w.if-region_holds.true l.invariant.1 | else-region_holds w ↦ w.m-is ∙ mult-out _ _ _ _ _ _ c.region_holds.ensures w.if-region_holds.false l.invariant.1 ],
     )
 
 pub returns : goal.returns

@@ -9,7 +9,7 @@ use borrow.Author.Rules.{rules}
 use Rattle.base.proofs.Sets.{sum-suc}
 use Rattle.multiplicity.proofs.Tallies.{Tally, tally-none, Few, tally-few, pairs-le, covered_le, more-in, more-out, most-in, most-out, shared-in, shared-out, stats-made}
 use Rattle.multiplicity.proofs.inner.tally.Invariants.{at}
-use Rattle.multiplicity.proofs.inner.tally.Goals.{At-loop-i}
+use Rattle.multiplicity.proofs.inner.tally.Goals.{At-loop-i, else-count-most, else-m-gt0, else-m-gt1, then-count-most, then-m-gt0, then-m-gt1}
 use Rattle.multiplicity.proofs.inner.tally.Goals as goal
 
 pub loop-i-init : goal.loop-i-init
@@ -48,10 +48,10 @@ loop-i-preserved c =
       omega arith,
       record {
         sum = omega (arith, t.sum, sum-suc l.i m);
-        some = ⊎_elim (λ w. w.1 ∙ more-in m l.i 0 _ w.0.taken t.some) (λ w. w.1 ∙ more-out m l.i 0 _ w.0.left t.some) c.if-m-gt0.branch;
-        more = ⊎_elim (λ w. w.1 ∙ more-in m l.i 1 _ w.0.taken t.more) (λ w. w.1 ∙ more-out m l.i 1 _ w.0.left t.more) c.if-m-gt1.branch;
-        largest = ⊎_elim (λ w. w.1 ∙ most-in m l.i _ w.0.taken t.largest) (λ w. w.1 ∙ most-out m l.i _ w.0.left t.largest) c.if-count-most.branch;
-        shared = ⊎_elim (λ w. w.2 ∙ shared-in m l.i _ t.shared) (λ w. w.2 ∙ shared-out m l.i _ w.0.left t.shared) c.if-m-gt0.branch;
+        some = elim c.if-m-gt0.branch [ then-m-gt0 w ↦ w.covered-is ∙ more-in m l.i 0 _ w.if-m-gt0.true t.some | else-m-gt0 w ↦ w.covered-is ∙ more-out m l.i 0 _ w.if-m-gt0.false t.some ];
+        more = elim c.if-m-gt1.branch [ then-m-gt1 w ↦ w.overlap-is ∙ more-in m l.i 1 _ w.if-m-gt1.true t.more | else-m-gt1 w ↦ w.overlap-is ∙ more-out m l.i 1 _ w.if-m-gt1.false t.more ];
+        largest = elim c.if-count-most.branch [ then-count-most w ↦ w.most-is ∙ most-in m l.i _ w.if-count-most.true t.largest | else-count-most w ↦ w.most-is ∙ most-out m l.i _ w.if-count-most.false t.largest ];
+        shared = elim c.if-m-gt0.branch [ then-m-gt0 w ↦ w.pairs-is ∙ shared-in m l.i _ t.shared | else-m-gt0 w ↦ w.pairs-is ∙ shared-out m l.i _ w.if-m-gt0.false t.shared ];
       },
     )
 

@@ -1,0 +1,9 @@
+-- `dual_topology::word_or` meets its contract. Assumes nothing.
+use borrow.Author.Rules.{rules}
+use mathlib.Core.Path.{sym, ap}
+use borrow.Author.Rules.{rules}
+use Rattle.dual_topology.specs.Answers.{word_answer_of}
+use Rattle.dual_topology.proofs.word_or.Goals as goal
+
+pub returns-in-Word : goal.returns-in-Word
+returns-in-Word c = ap word_answer_of (sym c.in-Word.is)
