@@ -10,7 +10,7 @@ use Rattle.dual_topology.proofs.check_row.Goals as goal
 
 pub returns-then-number-rows_of : goal.returns-then-number-rows_of
 unfolding row_check
-returns-then-number-rows_of c = group-pass _ _ _ (sym c.validate.ensures ∙ c.in-Accepted.is) (last-stop _ _ _ (le-ltb c.args.number (rows_of c.args.of c.args.nrows c.args.ncols) (omega (arith, c.if-number-rows_of.true, c.before.before.rows_of_lem.ensures))) c.refused.ensures)
+returns-then-number-rows_of c = group-pass _ _ _ (sym c.validate.ensures ∙ c.in-Accepted.is) (last-stop _ _ _ (le-ltb c.args.number (rows_of c.args.of c.args.nrows c.args.ncols) (omega (arith, c.if-number-rows_of.true, c.before.before.rows_of.ensures))) c.refused.ensures)
 
 pub returns-in-Refused : goal.returns-in-Refused
 unfolding row_check
@@ -18,4 +18,4 @@ returns-in-Refused c = group-stop _ _ _ (sym c.validate.ensures ∙ c.in-Refused
 
 pub returns-else-number-rows_of : goal.returns-else-number-rows_of
 unfolding row_check
-returns-else-number-rows_of c = group-pass _ _ _ (sym c.validate.ensures ∙ c.in-Accepted.is) (last-pass _ _ _ (lt-ltb c.args.number (rows_of c.args.of c.args.nrows c.args.ncols) (omega (arith, c.if-number-rows_of.false, c.before.rows_of_lem.ensures))) refl)
+returns-else-number-rows_of c = group-pass _ _ _ (sym c.validate.ensures ∙ c.in-Accepted.is) (last-pass _ _ _ (lt-ltb c.args.number (rows_of c.args.of c.args.nrows c.args.ncols) (omega (arith, c.if-number-rows_of.false, c.before.rows_of.ensures))) refl)

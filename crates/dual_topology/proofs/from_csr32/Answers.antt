@@ -9,7 +9,9 @@ use Rattle.dual_topology.proofs.Built.{build-passed}
 use Rattle.dual_topology.proofs.from_csr32.Goals as goal
 
 pub build-requires : goal.build-requires
-build-requires c = build-passed _ _ _ _ _ _ _ _ _ _ _ _ _ (sym c.check_build.ensures ∙ c.in-Accepted.is)
+build-requires c =
+    let p = build-passed _ _ _ _ _ _ _ _ _ _ _ _ _ (sym c.check_build.ensures ∙ c.in-Accepted.is) in
+    record { matrix = p.0; room = p.1 }
 
 pub returns-in-Refused : goal.returns-in-Refused
 returns-in-Refused c =
