@@ -9,25 +9,14 @@ use native.Mathlib.Omega.{arith}
 use lib.Bits.{bit_or, bit_xor, xor_self}
 use lib.ListN.{length, get_or, drop, length-drop}
 use lib.Dec.{eqb, leb}
-use borrow.Author.Rules.{rules}
 use borrow.Author.Tests.{eq-eqb, ne_eqb, leb-true}
 use Rattle.base.proofs.Bits.{or-none, xor_same}
 use Rattle.base.proofs.Bools.{eq-or-ne}
 use Rattle.base.proofs.Lists.{pairwise-step, pairwise-stop, pairwise-short, pairwise-at}
 use Rattle.gather.specs.Gather.{is_one_each}
-use Rattle.gather.proofs.inner.one_each.Statement.{statement}
-use Rattle.gather.proofs.inner.one_each.Tie as tie
-
-record Scanned (ptr : List ℕ) (other i : ℕ) : Type 0 where
-  since : 1 ≤ i
-  so_far : other ≡ 0 → is_one_each ptr ≡ is_one_each (drop (i - 1) ptr)
-  failed : (other ≡ 0 → ⊥) → is_one_each ptr ≡ false
-
-abbrev invariant-loop : tie.invariant-loop
-invariant-loop ptr other₀ i₀ other i = Scanned ptr other i
-
-abbrev decreases-loop : tie.decreases-loop
-decreases-loop ptr other₀ i₀ other i = length ptr - i
+use Rattle.gather.proofs.inner.one_each.Invariants.{Scanned}
+use Rattle.gather.proofs.inner.one_each.Goals.{In-loop-i}
+use Rattle.gather.proofs.inner.one_each.Goals as goal
 
 -- one step, from a to b
 module _ (ptr : List ℕ) (other i : ℕ) (inv : Scanned ptr other i) (l : i < length ptr) (up : get_or ptr (i - 1) 0 ≤ get_or ptr i 0) where
@@ -68,62 +57,29 @@ ends ptr other i inv h (inl z) = eq-eqb other 0 z ∙ sym (inv.so_far z ∙ pair
 ends ptr other i inv h (inr n) = ne_eqb other 0 n ∙ sym (inv.failed n)
 
 -- the pointers never fall
-rise : (c : tie.In-loop invariant-loop decreases-loop) → get_or c.before.before.args.ptr.now (c.before.loop.i - 1) 0 ≤ get_or c.before.before.args.ptr.now c.before.loop.i 0
+rise : (c : In-loop-i) → get_or c.args.ptr.now (c.loop-i.i - 1) 0 ≤ get_or c.args.ptr.now c.loop-i.i 0
 rise c =
-    let ptr = c.before.before.args.ptr.now in
-    let i = c.before.loop.i in
-    let e : i - 1 + 1 ≡ i = omega (arith, c.before.loop.invariant.since) in
+    let ptr = c.args.ptr.now in
+    let i = c.loop-i.i in
+    let e : i - 1 + 1 ≡ i = omega (arith, c.loop-i.invariant.since) in
     let n : get_or ptr (i - 1 + 1) 0 ≡ get_or ptr i 0 = ap (λ (k : ℕ). get_or ptr k 0) e in
-    omega (arith, n, leb-true (get_or ptr (i - 1) 0) (get_or ptr (i - 1 + 1) 0) (pairwise-at leb 0 ptr (i - 1) c.before.before.requires (omega (arith, c.before.loop.invariant.since, c.loop-test.true))))
+    omega (arith, n, leb-true (get_or ptr (i - 1) 0) (get_or ptr (i - 1 + 1) 0) (pairwise-at leb 0 ptr (i - 1) c.requires (omega (arith, c.loop-i.invariant.since, c.loop-i-test.true))))
 
-loop-holds : tie.Need-loop-init invariant-loop decreases-loop
-loop-holds c = record { since = omega arith; so_far = λ z. refl; failed = λ n. absurd (n refl) }
+pub loop-i-init : goal.loop-i-init
+loop-i-init c = record { since = omega arith; so_far = λ z. refl; failed = λ n. absurd (n refl) }
 
-mul-other : tie.Need-overflow-mul-other invariant-loop decreases-loop
-mul-other c = search rules
+pub overflow_sub-other : goal.overflow_sub-other
+overflow_sub-other c = c.loop-i.invariant.since
 
-shared-slice-read-other : tie.Need-shared-slice-read-other invariant-loop decreases-loop
-shared-slice-read-other c = search rules
+pub bounds-ptr-i-in-loop-i : goal.bounds-ptr-i-in-loop-i
+bounds-ptr-i-in-loop-i c = omega (arith, c.loop-i-test.true)
 
-sub-other : tie.Need-overflow-sub-other invariant-loop decreases-loop
-sub-other c = c.before.before.loop.invariant.since
+pub overflow_sub-other-in-loop-i : goal.overflow_sub-other-in-loop-i
+overflow_sub-other-in-loop-i c = rise (goal.at.overflow_sub-other-in-loop-i c).In-loop-i
 
-mul-other-2 : tie.Need-overflow-mul-other-2 invariant-loop decreases-loop
-mul-other-2 c = search rules
+pub loop-i-preserved : goal.loop-i-preserved
+loop-i-preserved c = next c.args.ptr.now c.loop-i.other c.loop-i.i c.loop-i.invariant c.loop-i-test.true (rise (goal.at.loop-i-preserved c).In-loop-i)
 
-shared-slice-read-other-2 : tie.Need-shared-slice-read-other-2 invariant-loop decreases-loop
-shared-slice-read-other-2 c = omega (arith, c.before.before.loop-test.true)
-
-sub-other-2 : tie.Need-overflow-sub-other-2 invariant-loop decreases-loop
-sub-other-2 c = rise c.before.before
-
-add-i : tie.Need-overflow-add-i invariant-loop decreases-loop
-add-i c = search rules
-
-loop-less : tie.Need-loop-smaller invariant-loop decreases-loop
-loop-less c = search rules
-
-loop-again : tie.Need-loop-preserved invariant-loop decreases-loop
-loop-again c = next c.before.before.before.before.args.ptr.now c.before.before.before.loop.other c.before.before.before.loop.i c.before.before.before.loop.invariant c.before.before.loop-test.true (rise c.before.before)
-
-returns : tie.Need-returns invariant-loop decreases-loop
+pub returns : goal.returns
 returns c =
-    ends c.before.before.args.ptr.now c.before.loop.other c.before.loop.i c.before.loop.invariant c.loop-test.false (eq-or-ne c.before.loop.other 0)
-
-pub one-each-spec : {M : Type 1} → statement M
-one-each-spec =
-    tie.close
-    (tie.spec
-    invariant-loop
-    decreases-loop
-    loop-holds
-    mul-other
-    shared-slice-read-other
-    sub-other
-    mul-other-2
-    shared-slice-read-other-2
-    sub-other-2
-    add-i
-    loop-less
-    loop-again
-    returns)
+    ends c.args.ptr.now c.loop-i.other c.loop-i.i c.loop-i.invariant c.loop-i-test.false (eq-or-ne c.loop-i.other 0)
