@@ -1,5 +1,4 @@
 -- `dual_topology::check_build` meets its contract. Assumes nothing.
-use borrow.Author.Rules.{rules}
 use mathlib.Core.Path.{sym, ◌∙◌}
 use Rattle.base.proofs.Checks.{group-pass, group-stop}
 use Rattle.dual_topology.specs.Answers.{build_check}

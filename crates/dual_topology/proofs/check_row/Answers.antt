@@ -1,8 +1,6 @@
 -- `dual_topology::check_row` meets its contract. Assumes nothing.
-use borrow.Author.Rules.{rules}
 use mathlib.Core.Path.{refl, sym, ◌∙◌}
 use native.Mathlib.Omega.{arith}
-use borrow.Author.Rules.{rules}
 use borrow.Author.Tests.{le-ltb, lt-ltb}
 use Rattle.base.proofs.Checks.{group-pass, group-stop, last-pass, last-stop}
 use Rattle.dual_topology.specs.Answers.{rows_of, row_check}

@@ -1,7 +1,5 @@
 -- `dual_topology::from_csr32` meets its contract. Assumes nothing.
-use borrow.Author.Rules.{rules}
 use mathlib.Core.Path.{sym, ap, ◌∙◌}
-use borrow.Author.Rules.{rules}
 use Rattle.base.proofs.Checks.{on-accepted, on-refused}
 use Rattle.base.proofs.Checks.{kept}
 use Rattle.dual_topology.specs.declared.TopologyBuilt.{TopologyBuilt}

@@ -1,10 +1,8 @@
 -- `dual_topology::row_contains` meets its contract. Assumes nothing.
-use borrow.Author.Rules.{rules}
 use mathlib.Core.Path.{sym, ap, ◌∙◌}
 use mathlib.Core.Bool.{Bool, ◌&&◌}
 use Prim.Native.Nat.{ℕ}
 use lib.Dec.{ltb}
-use borrow.Author.Rules.{rules}
 use Rattle.base.specs.declared.Truth.{Truth}
 use Rattle.base.proofs.Checks.{on-accepted, on-refused}
 use Rattle.dual_topology.proofs.Accepted.{accepted-topology, of-rows, of-columns, row-accepted, rows-number, columns-number}

@@ -1,9 +1,7 @@
 -- `dual_topology::row_select` meets its contract. Assumes nothing.
-use borrow.Author.Rules.{rules}
 use mathlib.Core.Path.{sym, ap, ◌∙◌}
 use mathlib.Core.Bool.{Bool}
 use Prim.Native.Nat.{ℕ}
-use borrow.Author.Rules.{rules}
 use Rattle.base.proofs.Checks.{on-accepted, on-refused}
 use Rattle.base.specs.Sets.{members_below}
 use Rattle.word.specs.Answers.{entry}

@@ -1,9 +1,7 @@
 -- `dual_topology::row_word` meets its contract. Assumes nothing.
-use borrow.Author.Rules.{rules}
 use mathlib.Core.Path.{sym, ap, ◌∙◌}
 use mathlib.Core.Bool.{Bool}
 use Prim.Native.Nat.{ℕ}
-use borrow.Author.Rules.{rules}
 use Rattle.base.proofs.Checks.{on-accepted, on-refused}
 use Rattle.side.specs.Side.{word_at}
 use Rattle.dual_topology.specs.Answers.{word_answer_of}

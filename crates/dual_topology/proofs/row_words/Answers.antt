@@ -1,10 +1,8 @@
 -- `dual_topology::row_words` meets its contract. Assumes nothing.
-use borrow.Author.Rules.{rules}
 use mathlib.Core.Path.{sym, ap, ◌∙◌}
 use mathlib.Core.Bool.{Bool}
 use Prim.Native.Nat.{ℕ}
 use lib.ListN.{length}
-use borrow.Author.Rules.{rules}
 use Rattle.base.specs.declared.Counted.{Counted}
 use Rattle.base.proofs.Checks.{on-accepted, on-refused}
 use Rattle.side.specs.Side.{words_of_row}

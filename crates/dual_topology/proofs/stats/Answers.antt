@@ -1,8 +1,6 @@
 -- `dual_topology::stats` meets its contract. Assumes nothing.
-use borrow.Author.Rules.{rules}
 use mathlib.Core.Path.{refl, sym, ◌∙◌}
 use native.Mathlib.Omega.{arith}
-use borrow.Author.Rules.{rules}
 use Rattle.base.proofs.Checks.{on-accepted, on-refused}
 use Rattle.dual_topology.specs.declared.DualStated.{DualStated}
 use Rattle.dual_topology.proofs.Accepted.{Accepts, accepted-topology}

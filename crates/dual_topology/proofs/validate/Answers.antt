@@ -1,7 +1,5 @@
 -- `dual_topology::validate` meets its contract. Assumes nothing.
-use borrow.Author.Rules.{rules}
 use mathlib.Core.Path.{sym, ap, ◌∙◌}
-use borrow.Author.Rules.{rules}
 use Rattle.base.proofs.Checks.{group-pass, group-stop}
 use Rattle.side.specs.Check.{fault_check}
 use Rattle.side.proofs.Accepted.{limits_passed}

@@ -1,5 +1,4 @@
 -- `multiplicity::check_counts` meets its contract. Assumes nothing.
-use borrow.Author.Rules.{rules}
 use mathlib.Core.Path.{refl, sym, ◌∙◌}
 use borrow.Author.Tests.{le-leb, lt-leb}
 use Rattle.base.proofs.Checks.{group-pass, group-stop, last-pass, last-stop}

@@ -1,5 +1,4 @@
 -- `multiplicity::check_regions` meets its contract. Assumes nothing.
-use borrow.Author.Rules.{rules}
 use mathlib.Core.Path.{◌≡◌, refl, sym, ap, ◌∙◌}
 use Prim.Native.Nat.{ℕ, ◌*◌}
 use native.Mathlib.Omega.{arith}
@@ -7,7 +6,7 @@ use borrow.Author.Tests.{le-leb, lt-leb, eq-eqb, ne_eqb}
 use lib.ListN.{length}
 use Rattle.base.specs.Checks.{refusal_of_length}
 use Rattle.base.specs.declared.Checked.{Checked}
-use Rattle.base.proofs.Checks.{pass, stop, length-pass, length-stop, last-pass, last-stop, call-no, call-yes}
+use Rattle.base.proofs.Checks.{pass, stop, length-pass, length-stop, last-pass, last-stop}
 use Rattle.mask.specs.Mask.{words_needed}
 use Rattle.multiplicity.specs.Multiplicity.{regions_check}
 use Rattle.multiplicity.proofs.Regions.{part-few}

@@ -1,5 +1,4 @@
 -- `multiplicity::check_weight` meets its contract. Assumes nothing.
-use borrow.Author.Rules.{rules}
 use mathlib.Core.Path.{refl, sym, ◌∙◌}
 use borrow.Author.Tests.{le-ltb, lt-ltb}
 use Rattle.base.proofs.Checks.{group-pass, group-stop, pass, stop, last-pass, last-stop}

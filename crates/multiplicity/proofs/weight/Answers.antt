@@ -1,12 +1,11 @@
 -- `multiplicity::weight` meets its contract. Assumes nothing.
-use borrow.Author.Rules.{rules}
 use mathlib.Core.Path.{◌≡◌, sym, ap, ◌∙◌}
 use mathlib.Core.Bool.{Bool, cond}
 use Prim.Native.Nat.{ℕ, ◌/◌, ◌<◌}
 use native.Mathlib.Omega.{arith}
 use Rattle.base.specs.declared.Checked.{Checked}
 use Rattle.base.specs.declared.Counted.{Counted}
-use Rattle.base.proofs.Checks.{on-accepted, on-refused, call-no, call-yes}
+use Rattle.base.proofs.Checks.{on-accepted, on-refused}
 use Rattle.multiplicity.specs.Multiplicity.{multiplicity_of, weight_check, Regions}
 use Rattle.multiplicity.proofs.Regions.{accepted-weight}
 use Rattle.multiplicity.proofs.Counts.{mult-pos}

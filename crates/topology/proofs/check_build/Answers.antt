@@ -1,7 +1,5 @@
 -- `topology::check_build` meets its contract. Assumes nothing.
-use borrow.Author.Rules.{rules}
 use mathlib.Core.Path.{sym, ◌∙◌}
-use borrow.Author.Rules.{rules}
 use Rattle.base.proofs.Checks.{group-pass, group-stop}
 use Rattle.topology.specs.Answers.{build_check}
 use Rattle.topology.proofs.check_build.Goals as goal

@@ -1,7 +1,5 @@
 -- `topology::check_sets` meets its contract. Assumes nothing.
-use borrow.Author.Rules.{rules}
 use mathlib.Core.Path.{sym, ◌∙◌}
-use borrow.Author.Rules.{rules}
 use borrow.Author.Tests.{eq-eqb, ne_eqb}
 use Rattle.base.proofs.Checks.{pass, stop, group-pass, group-stop}
 use Rattle.topology.specs.Answers.{sets_check}

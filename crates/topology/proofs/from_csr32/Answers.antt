@@ -1,7 +1,5 @@
 -- `topology::from_csr32` meets its contract. Assumes nothing.
-use borrow.Author.Rules.{rules}
 use mathlib.Core.Path.{sym, ap, ◌∙◌}
-use borrow.Author.Rules.{rules}
 use Rattle.base.proofs.Checks.{on-accepted, on-refused, kept}
 use Rattle.topology.specs.declared.SideBuilt.{SideBuilt}
 use Rattle.topology.proofs.Rooms.{build-passed}

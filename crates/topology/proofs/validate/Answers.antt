@@ -1,5 +1,4 @@
 -- `topology::validate` meets its contract. Assumes nothing.
-use borrow.Author.Rules.{rules}
 use mathlib.Core.Path.{sym, ap, ◌∙◌}
 use Rattle.base.proofs.Checks.{group-pass, group-stop}
 use Rattle.side.specs.Check.{fault_check, side_check}

@@ -1,5 +1,4 @@
 -- `agreement::inner::holds` meets its contract. Assumes nothing.
-use borrow.Author.Rules.{rules}
 use native.Mathlib.Nat.{le_refl}
 use Rattle.side.proofs.Holding.{contains-at}
 use Rattle.agreement.proofs.inner.holds.Goals as goal

@@ -1,10 +1,8 @@
 -- `agreement::inner::is_transpose` meets its contract. The invariant: the columns hold every pair of the rows before `row`. Assumes nothing.
-use borrow.Author.Rules.{rules}
 use mathlib.Core.Path.{◌≡◌, sym, ◌∙◌}
 use mathlib.Core.Bool.{Bool}
-use Prim.Native.Nat.{ℕ, ◌-◌, ◌≤◌, ◌<◌}
+use Prim.Native.Nat.{ℕ}
 use native.Mathlib.Omega.{arith}
-use borrow.Author.Tests.{not-true, not-false}
 use lib.Dec.{T}
 use Rattle.base.specs.Sets.{every_below}
 use Rattle.base.proofs.Bools.{T_true, T_false, T_of, not-T-of}

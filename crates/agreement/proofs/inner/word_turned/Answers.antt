@@ -1,14 +1,11 @@
 -- `agreement::inner::word_turned` meets its contract. The invariant: the columns of the mask all hold the row exactly if those of its bits that are left do. Assumes nothing.
-use borrow.Author.Rules.{rules}
 use mathlib.Core.Path.{sym, ◌∙◌}
 use Prim.Native.Nat.{◌+◌, ◌*◌}
 use native.Mathlib.Omega.{arith}
-use borrow.Author.Tests.{not-true, not-false}
 use lib.Count.{count_trailing_zeros, trailing_le}
 use Rattle.word.proofs.Bits.{clear-less}
-use Rattle.side.specs.Side.{side_holds}
 use Rattle.side.proofs.Sides.{end-le, end-in}
-use Rattle.agreement.proofs.Words.{Walk, walk_start, walk_col, walk_next, walk_stop, walk_end}
+use Rattle.agreement.proofs.Words.{walk_start, walk_col, walk_next, walk_stop, walk_end}
 use Rattle.agreement.proofs.inner.word_turned.Goals as goal
 
 pub loop-left-init : goal.loop-left-init

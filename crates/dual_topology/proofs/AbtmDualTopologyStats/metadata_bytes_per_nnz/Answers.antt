@@ -1,12 +1,10 @@
 -- `dual_topology::AbtmDualTopologyStats::metadata_bytes_per_nnz` meets its contract. Assumes nothing.
-use borrow.Author.Rules.{rules}
 use mathlib.Core.Path.{ap, ◌∙◌}
 use Prim.Native.Nat.{ℕ, ◌^◌}
 use native.Mathlib.Omega.{arith}
 use lib.Dec.{le→leb}
 use lib.Ieee.{binary64, div, of_int, in_float}
 use lib.IntN.{pos}
-use borrow.Author.Rules.{rules}
 use Rattle.topology.proofs.Ratios.{ratio-none, ratio-some}
 use Rattle.dual_topology.proofs.AbtmDualTopologyStats.metadata_bytes_per_nnz.Goals as goal
 

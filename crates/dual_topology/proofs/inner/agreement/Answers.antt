@@ -1,7 +1,6 @@
 -- `dual_topology::inner::agreement` meets its contract. Assumes nothing.
 use mathlib.Core.Path.{sym, ap, ◌∙◌}
 use mathlib.Core.Bool.{Bool, cond}
-use borrow.Author.Tests.{not-true, not-false}
 use Rattle.base.proofs.Bools.{both_ways}
 use Rattle.side.specs.declared.Fault.{Fault}
 use Rattle.side.proofs.Accepted.{side-as}

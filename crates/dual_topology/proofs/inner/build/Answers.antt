@@ -1,7 +1,5 @@
 -- `dual_topology::inner::build` meets its contract. Assumes nothing.
-use borrow.Author.Rules.{rules}
 use mathlib.Core.Path.{ap₂}
-use borrow.Author.Rules.{rules}
 use Rattle.side.specs.declared.SideCounts.{SideCounts}
 use Rattle.dual_topology.proofs.inner.build.Goals as goal
 

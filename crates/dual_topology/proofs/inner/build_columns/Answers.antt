@@ -1,11 +1,9 @@
 -- `dual_topology::inner::build_columns` meets its contract. Assumes nothing.
-use borrow.Author.Rules.{rules}
 use mathlib.Core.Path.{sym, ap, ap₂, ◌∙◌}
 use mathlib.Core.Bool.{Bool}
 use Prim.Native.Nat.{ℕ, ◌+◌}
 use native.Mathlib.Omega.{arith}
 use lib.ListN.{length}
-use borrow.Author.Rules.{rules}
 use Rattle.base.specs.Lists.{over, over_with_zeros}
 use Rattle.side.specs.Side.{side_ptr, side_words, side_masks, side_counts}
 use Rattle.dual_topology.proofs.Built.{flipped, part-long, zero-again}

@@ -1,5 +1,4 @@
 -- `dual_topology::inner::check_room` meets its contract. Assumes nothing.
-use borrow.Author.Rules.{rules}
 use mathlib.Core.Path.{refl, sym, ◌∙◌}
 use borrow.Author.Tests.{le-ltb, lt-ltb, le-leb, lt-leb}
 use Rattle.base.proofs.Checks.{pass, stop, group-pass, group-stop, last-pass, last-stop}

@@ -1,7 +1,5 @@
 -- `dual_topology::inner::fault` meets its contract. Assumes nothing.
-use borrow.Author.Rules.{rules}
 use mathlib.Core.Path.{sym, ◌∙◌}
-use borrow.Author.Rules.{rules}
 use Rattle.side.proofs.Accepted.{sound-side}
 use Rattle.dual_topology.specs.Check.{topology_fault}
 use Rattle.dual_topology.proofs.Accepted.{first_next, first-lists, first_word, first-disagree}

@@ -1,7 +1,6 @@
 -- `growth::inner::check_room` meets its contract. Assumes nothing.
 use Prim.Native.Nat.{◌≤◌, ◌<◌}
 use native.Mathlib.Omega.{arith}
-use borrow.Author.Rules.{rules}
 use borrow.Author.Tests.{le-leb, lt-leb}
 use mathlib.Core.Path.{refl}
 use Rattle.base.proofs.Checks.{pass, stop, last-pass, last-stop}

@@ -1,10 +1,7 @@
 -- `growth::inner::settle` meets its contract. The invariant: the first w words of the three masks are those of the result. Assumes nothing.
-use Prim.Native.Nat.{◌-◌}
 use native.Mathlib.Omega.{arith}
-use lib.ListN.{length}
-use borrow.Author.Rules.{rules}
 use Rattle.mask.proofs.Masks.{is-length}
-use Rattle.growth.proofs.Settles.{Settled, settle-start, settle_turn, settle-end}
+use Rattle.growth.proofs.Settles.{settle-start, settle_turn, settle-end}
 use Rattle.growth.proofs.inner.settle.Goals as goal
 
 pub loop-w-init : goal.loop-w-init

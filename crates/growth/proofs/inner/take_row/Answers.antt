@@ -1,12 +1,11 @@
 -- `growth::inner::take_row` meets its contract. The invariant: the words of the row before k are joined, their bits counted. Assumes nothing.
 use mathlib.Core.Path.{◌≡◌, refl, sym, ap, ap₂, ◌∙◌}
 use mathlib.Core.List.{List}
-use Prim.Native.Nat.{ℕ, ◌+◌, ◌-◌, ◌≤◌, ◌<◌}
+use Prim.Native.Nat.{ℕ, ◌+◌, ◌<◌}
 use native.Mathlib.Omega.{arith}
 use lib.Bits.{bit_or}
 use lib.Count.{ones, ones-le}
 use lib.ListN.{length, get_or, set, length-set}
-use borrow.Author.Rules.{rules}
 use Rattle.word.proofs.Bits.{ones-count}
 use Rattle.word.proofs.Answers.{ones-fits}
 use Rattle.mask.specs.Mask.{words_needed, mask_words}

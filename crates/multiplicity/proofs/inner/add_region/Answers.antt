@@ -2,15 +2,14 @@
 -- no longer left. Assumes nothing.
 use mathlib.Core.Path.{◌≡◌, ap}
 use mathlib.Core.List.{List}
-use Prim.Native.Nat.{ℕ, ◌+◌, ◌-◌, ◌*◌, ◌<◌}
+use Prim.Native.Nat.{ℕ, ◌+◌, ◌*◌, ◌<◌}
 use native.Mathlib.Omega.{arith}
-use borrow.Author.Rules.{rules}
 use lib.Count.{count_trailing_zeros, trailing_le}
-use lib.ListN.{length, get_or}
+use lib.ListN.{get_or}
 use Rattle.base.specs.Checks.{region_limit}
 use Rattle.word.proofs.Bits.{clear-less}
 use Rattle.mask.proofs.Masks.{is-length, is-fits, is_below}
-use Rattle.multiplicity.proofs.Adds.{Walked, walk_start, walk_low, walk_member, walk_still, walk_turn, Added, add_start, add_turn, add-end}
+use Rattle.multiplicity.proofs.Adds.{walk_start, walk_low, walk_member, walk_still, walk_turn, add_start, add_turn, add-end}
 use Rattle.multiplicity.proofs.inner.add_region.Goals.{In-loop-bits}
 use Rattle.multiplicity.proofs.inner.add_region.Goals as goal
 

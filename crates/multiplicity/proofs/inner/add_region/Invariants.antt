@@ -1,16 +1,8 @@
 -- `multiplicity::inner::add_region` meets its contract. The invariants: the members of the words before w are counted; of word w those whose bits are
 -- no longer left. Assumes nothing.
-use mathlib.Core.Path.{◌≡◌, ap}
-use mathlib.Core.List.{List}
-use Prim.Native.Nat.{ℕ, ◌+◌, ◌-◌, ◌*◌, ◌<◌}
-use native.Mathlib.Omega.{arith}
-use borrow.Author.Rules.{rules}
-use lib.Count.{count_trailing_zeros, trailing_le}
-use lib.ListN.{length, get_or}
-use Rattle.base.specs.Checks.{region_limit}
-use Rattle.word.proofs.Bits.{clear-less}
-use Rattle.mask.proofs.Masks.{is-length, is-fits, is_below}
-use Rattle.multiplicity.proofs.Adds.{Walked, walk_start, walk_low, walk_member, walk_still, walk_turn, Added, add_start, add_turn, add-end}
+use Prim.Native.Nat.{◌-◌}
+use lib.ListN.{length}
+use Rattle.multiplicity.proofs.Adds.{Walked, Added}
 use Rattle.multiplicity.proofs.inner.add_region.Given as goal
 
 abbrev pub invariant-loop-bits : goal.invariant-loop-bits

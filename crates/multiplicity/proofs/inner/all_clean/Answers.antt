@@ -1,10 +1,9 @@
 -- `multiplicity::inner::all_clean` meets its contract. The invariant: the regions below q are clean. Assumes nothing.
 use mathlib.Core.Path.{◌≡◌, sym, ap, ◌∙◌}
 use mathlib.Core.Bool.{true}
-use Prim.Native.Nat.{ℕ, ◌+◌, ◌-◌, ◌*◌, ◌/◌, ◌%◌, ◌^◌, ◌≤◌, ◌<◌}
+use Prim.Native.Nat.{ℕ, ◌+◌, ◌-◌, ◌*◌, ◌/◌, ◌%◌, ◌^◌, ◌≤◌}
 use native.Mathlib.Omega.{arith}
 use lib.ListN.{length, get_or}
-use borrow.Author.Rules.{rules}
 use Rattle.base.proofs.Sets.{below_next}
 use Rattle.mask.specs.Mask.{words_needed, clean}
 use Rattle.multiplicity.specs.Multiplicity.{region_at}

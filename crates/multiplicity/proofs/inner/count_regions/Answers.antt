@@ -1,10 +1,9 @@
 -- `multiplicity::inner::count_regions` meets its contract. The invariant: the counts are those of the regions below q. Assumes nothing.
 use mathlib.Core.Path.{◌≡◌, sym, ap, ◌∙◌, subst}
 use mathlib.Core.List.{List}
-use Prim.Native.Nat.{ℕ, ◌-◌, ◌*◌, ◌^◌, ◌≤◌}
+use Prim.Native.Nat.{ℕ, ◌*◌, ◌^◌, ◌≤◌}
 use native.Mathlib.Omega.{arith}
 use lib.ListN.{length, get_or}
-use borrow.Author.Rules.{rules}
 use Rattle.base.specs.Lists.{list_from}
 use Rattle.base.proofs.Lists.{length-list_from}
 use Rattle.mask.specs.Mask.{IsMask}

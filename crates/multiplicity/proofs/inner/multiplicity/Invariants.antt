@@ -1,11 +1,7 @@
 -- `multiplicity::inner::multiplicity` meets its contract. The invariant: m regions below q hold the node. Assumes nothing.
-use mathlib.Core.Path.{◌≡◌, sym, ap, ◌∙◌}
-use mathlib.Core.Logic.{⊎_elim}
-use Prim.Native.Nat.{ℕ, ◌-◌, ◌≤◌}
-use native.Mathlib.Omega.{arith}
-use borrow.Author.Rules.{rules}
+use mathlib.Core.Path.{◌≡◌}
+use Prim.Native.Nat.{◌-◌, ◌≤◌}
 use Rattle.multiplicity.specs.Multiplicity.{multiplicity_of}
-use Rattle.multiplicity.proofs.Counts.{mult-none, mult-le, mult-in, mult-out}
 use Rattle.multiplicity.proofs.inner.multiplicity.Given as goal
 
 abbrev pub invariant-loop-q : goal.invariant-loop-q

@@ -1,13 +1,8 @@
 -- `multiplicity::inner::tally` meets its contract. The invariant: the sums are those of the counts below i. Assumes nothing.
-use mathlib.Core.Path.{◌≡◌, ◌∙◌, subst}
-use mathlib.Core.Logic.{⊎_elim}
 use mathlib.Core.List.{List}
 use Prim.Native.Nat.{ℕ, ◌-◌, ◌≤◌}
-use native.Mathlib.Omega.{arith}
 use lib.ListN.{length, get_or}
-use borrow.Author.Rules.{rules}
-use Rattle.base.proofs.Sets.{sum-suc}
-use Rattle.multiplicity.proofs.Tallies.{Tally, tally-none, Few, tally-few, pairs-le, covered_le, more-in, more-out, most-in, most-out, shared-in, shared-out, stats-made}
+use Rattle.multiplicity.proofs.Tallies.{Tally}
 use Rattle.multiplicity.proofs.inner.tally.Given as goal
 
 abbrev pub at : List ℕ → ℕ → ℕ

@@ -1,5 +1,4 @@
 -- `pattern::AbtmLocalSubmatrixPatternStats::average_local_row_nnz` meets its contract. Assumes nothing.
-use borrow.Author.Rules.{rules}
 use Rattle.topology.proofs.Ratios.{ratio-none, ratio-some}
 use Rattle.pattern.proofs.AbtmLocalSubmatrixPatternStats.average_local_row_nnz.Goals as goal
 

@@ -1,5 +1,4 @@
 -- `pattern::AbtmLocalSubmatrixPatternStats::structural_pruning_ratio` meets its contract. Assumes nothing.
-use borrow.Author.Rules.{rules}
 use mathlib.Core.Path.{sym, ap, ◌∙◌}
 use mathlib.Core.Bool.{Bool, cond}
 use borrow.Author.Tests.{eq-eqb, ne_eqb}

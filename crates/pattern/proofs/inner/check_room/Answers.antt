@@ -1,5 +1,4 @@
 -- `pattern::inner::check_room` meets its contract. Assumes nothing.
-use borrow.Author.Rules.{rules}
 use Rattle.base.proofs.Checks.{checks}
 use Rattle.pattern.specs.Steps.{room_for}
 use Rattle.pattern.proofs.inner.check_room.Goals as goal

@@ -1,9 +1,8 @@
 -- `pattern::inner::count` meets its contract. The invariant: the members below r are counted. Assumes nothing.
-use Prim.Native.Nat.{◌+◌, ◌-◌}
+use Prim.Native.Nat.{◌+◌}
 use native.Mathlib.Omega.{arith}
 use Rattle.mask.proofs.Nexts.{next-is}
-use Rattle.side.specs.Side.{side_holds}
-use Rattle.pattern.proofs.Counting.{Walked, walk_first, walk_turn, walk-last, members-fit, words-fit, candidates-fit, kept-fit}
+use Rattle.pattern.proofs.Counting.{walk_first, walk_turn, walk-last, members-fit, words-fit, candidates-fit, kept-fit}
 use Rattle.pattern.proofs.inner.count.Goals as goal
 
 pub next_member-r-requires : goal.next_member-r-requires

@@ -1,18 +1,10 @@
 -- `pattern::inner::fill_ranks` meets its contract. The invariant: the words before w are written, and their members counted. Assumes nothing.
-use mathlib.Core.Path.{◌≡◌, refl, sym, ap, ◌∙◌}
-use mathlib.Core.Logic.{⊎_elim}
-use Prim.Native.Nat.{ℕ, ◌+◌, ◌-◌, ◌*◌, ◌^◌, ◌≤◌, ◌<◌}
-use native.Mathlib.Omega.{arith}
-use native.Mathlib.Nat.{zero-add}
-use lib.Count.{ones, ones-le}
-use lib.ListN.{length, get_or, length-set}
+use mathlib.Core.Path.{◌≡◌}
+use Prim.Native.Nat.{◌-◌, ◌*◌, ◌≤◌}
+use lib.ListN.{length}
 use Rattle.base.specs.Lists.{written}
 use Rattle.base.specs.Sets.{count_below}
-use Rattle.base.proofs.Lists.{put_next, put-end, length-list_from, get_or-list_from}
-use Rattle.base.proofs.Sets.{sum-zero, count-le}
-use Rattle.mask.specs.Mask.{in_mask, words_needed}
-use Rattle.mask.proofs.Masks.{in-word, is-length, is-fits}
-use Rattle.word.proofs.Turns.{count_turn}
+use Rattle.mask.specs.Mask.{in_mask}
 use Rattle.pattern.specs.Steps.{ranks_of}
 use Rattle.pattern.proofs.inner.fill_ranks.Given as goal
 

@@ -8,7 +8,7 @@ use lib.Bits.{bit_and, and_le_l}
 use lib.Count.{count_trailing_zeros, trailing_le}
 use lib.ListN.{length, get_or, drop, length-set, length-drop}
 use Rattle.base.specs.Lists.{written}
-use Rattle.base.specs.Sets.{members_from, members_below}
+use Rattle.base.specs.Sets.{members_from}
 use Rattle.base.proofs.Lists.{put_next, put-put, put-end}
 use Rattle.base.proofs.Sets.{members-zero, count-members}
 use Rattle.word.specs.Bits.{set_bits}

@@ -1,7 +1,6 @@
 -- `pattern::inner::write_ranked` meets its contract. The invariant: the members below r are written. Assumes nothing.
-use borrow.Author.Rules.{rules}
 use mathlib.Core.Path.{◌∙◌}
-use Prim.Native.Nat.{◌+◌, ◌-◌, ◌≤◌, ◌<◌}
+use Prim.Native.Nat.{◌+◌, ◌≤◌, ◌<◌}
 use native.Mathlib.Omega.{arith}
 use lib.ListN.{set, length-set}
 use Rattle.base.specs.Sets.{count_below}
@@ -11,7 +10,7 @@ use Rattle.side.specs.Side.{side_holds}
 use Rattle.pattern.specs.Pattern.{inside, pattern_ptr, pairs_inside}
 use Rattle.pattern.proofs.Counting.{kept_small}
 use Rattle.base.proofs.Lists.{over_first}
-use Rattle.pattern.proofs.Writing.{Writing, write-first, write-turn, write-last, ptr-length, more-members, more-pairs, ranks_long, ranks_at}
+use Rattle.pattern.proofs.Writing.{write-first, write-turn, write-last, ptr-length, more-members, more-pairs, ranks_long, ranks_at}
 use Rattle.pattern.proofs.inner.write_ranked.Goals.{After-next_member-r-in-loop-r, In-loop-r}
 use Rattle.pattern.proofs.inner.write_ranked.Goals as goal
 

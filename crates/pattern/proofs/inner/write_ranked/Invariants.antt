@@ -1,17 +1,7 @@
 -- `pattern::inner::write_ranked` meets its contract. The invariant: the members below r are written. Assumes nothing.
-use borrow.Author.Rules.{rules}
-use mathlib.Core.Path.{◌∙◌}
-use Prim.Native.Nat.{◌+◌, ◌-◌, ◌≤◌, ◌<◌}
-use native.Mathlib.Omega.{arith}
-use lib.ListN.{set, length-set}
-use Rattle.base.specs.Sets.{count_below}
-use Rattle.mask.specs.Mask.{in_mask}
-use Rattle.mask.proofs.Nexts.{Next, next-is}
+use Prim.Native.Nat.{◌-◌}
 use Rattle.side.specs.Side.{side_holds}
-use Rattle.pattern.specs.Pattern.{inside, pattern_ptr, pairs_inside}
-use Rattle.pattern.proofs.Counting.{kept_small}
-use Rattle.base.proofs.Lists.{over_first}
-use Rattle.pattern.proofs.Writing.{Writing, write-first, write-turn, write-last, ptr-length, more-members, more-pairs, ranks_long, ranks_at}
+use Rattle.pattern.proofs.Writing.{Writing}
 use Rattle.pattern.proofs.inner.write_ranked.Given as goal
 
 abbrev pub invariant-loop-r : goal.invariant-loop-r

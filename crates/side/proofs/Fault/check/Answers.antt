@@ -1,5 +1,4 @@
 -- `side::Fault::check` meets its contract. Assumes nothing.
-use borrow.Author.Rules.{rules}
 use mathlib.Core.Path.{sym, ap, ◌∙◌}
 use Rattle.side.specs.Check.{fault_check}
 use Rattle.side.proofs.Fault.check.Goals as goal

@@ -1,5 +1,4 @@
 -- `side::inner::check_limits` meets its contract. Assumes nothing.
-use borrow.Author.Rules.{rules}
 use Rattle.base.proofs.Checks.{checks}
 use Rattle.side.specs.Check.{limit_check}
 use Rattle.side.proofs.inner.check_limits.Goals as goal

@@ -1,5 +1,4 @@
 -- `side::inner::check_room` meets its contract. Assumes nothing.
-use borrow.Author.Rules.{rules}
 use Rattle.base.proofs.Checks.{checks}
 use Rattle.side.specs.Check.{side_room}
 use Rattle.side.proofs.inner.check_room.Goals as goal

@@ -1,13 +1,8 @@
 -- `side::inner::check_words` meets its contract. The invariant: no word of the rows before r is bad. Assumes nothing.
-use mathlib.Core.Path.{◌≡◌, ap}
-use Prim.Native.Nat.{ℕ, ◌+◌, ◌-◌, ◌≤◌, ◌<◌}
-use native.Mathlib.Omega.{arith}
+use Prim.Native.Nat.{◌-◌, ◌≤◌}
 use lib.ListN.{get_or}
-use borrow.Author.Rules.{rules}
 use Rattle.base.proofs.Sets.{None}
 use Rattle.side.specs.Check.{bad_at}
-use Rattle.side.proofs.Sides.{end-le, end-in}
-use Rattle.side.proofs.Accepted.{words-sound, words-bad, none-to, is-bad}
 use Rattle.side.proofs.inner.check_words.Given as goal
 
 abbrev pub invariant-loop-r : goal.invariant-loop-r

@@ -1,5 +1,4 @@
 -- `side::inner::contains` meets its contract. Assumes nothing.
-use borrow.Author.Rules.{rules}
 use mathlib.Core.Path.{sym}
 use native.Mathlib.Omega.{arith}
 use Rattle.side.proofs.Holding.{contains-at}

@@ -1,10 +1,9 @@
 -- `side::inner::count_bits` meets its contract. The invariant: the bits of the masks before i are counted. Assumes nothing.
 use mathlib.Core.Path.{◌≡◌, sym, ap, ◌∙◌}
-use Prim.Native.Nat.{ℕ, ◌+◌, ◌-◌, ◌≤◌}
+use Prim.Native.Nat.{ℕ, ◌+◌}
 use native.Mathlib.Omega.{arith}
 use lib.Count.{ones, ones-le}
 use lib.ListN.{get_or}
-use borrow.Author.Rules.{rules}
 use Rattle.word.proofs.Bits.{ones-count}
 use Rattle.word.proofs.Answers.{ones-fits}
 use Rattle.side.specs.Check.{bits_in}

@@ -1,14 +1,7 @@
 -- `side::inner::count_bits` meets its contract. The invariant: the bits of the masks before i are counted. Assumes nothing.
-use mathlib.Core.Path.{◌≡◌, sym, ap, ◌∙◌}
-use Prim.Native.Nat.{ℕ, ◌+◌, ◌-◌, ◌≤◌}
-use native.Mathlib.Omega.{arith}
-use lib.Count.{ones, ones-le}
-use lib.ListN.{get_or}
-use borrow.Author.Rules.{rules}
-use Rattle.word.proofs.Bits.{ones-count}
-use Rattle.word.proofs.Answers.{ones-fits}
+use mathlib.Core.Path.{◌≡◌}
+use Prim.Native.Nat.{◌-◌, ◌≤◌}
 use Rattle.side.specs.Check.{bits_in}
-use Rattle.side.proofs.Sides.{bits_none, bits-next, bits-le}
 use Rattle.side.proofs.inner.count_bits.Given as goal
 
 abbrev pub invariant-loop-i : goal.invariant-loop-i

@@ -1,11 +1,10 @@
 -- `side::inner::fault` meets its contract. Assumes nothing.
-use borrow.Author.Rules.{rules}
 use mathlib.Core.Path.{◌≡◌, sym, ◌∙◌}
 use Prim.Native.Nat.{◌+◌}
 use native.Mathlib.Omega.{arith}
 use lib.Dec.{leb}
 use lib.ListN.{length}
-use borrow.Author.Tests.{not-true, not-false, leb-true}
+use borrow.Author.Tests.{leb-true}
 use Rattle.base.proofs.Bools.{both_ways}
 use Rattle.base.proofs.Lists.{pairwise-at}
 use Rattle.side.specs.Check.{IsRows}

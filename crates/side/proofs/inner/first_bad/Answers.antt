@@ -1,12 +1,6 @@
 -- `side::inner::first_bad` meets its contract. The invariant: the words before k are good. Assumes nothing.
-use mathlib.Core.Path.{◌≡◌, sym, ◌∙◌}
-use mathlib.Core.Logic.{⊎_elim}
-use mathlib.Core.Bool.{true}
-use Prim.Native.Nat.{ℕ, ◌-◌, ◌≤◌, ◌<◌}
+use mathlib.Core.Path.{sym, ◌∙◌}
 use native.Mathlib.Omega.{arith}
-use borrow.Author.Rules.{rules}
-use borrow.Author.Tests.{not-true, not-false}
-use Rattle.side.specs.Check.{good_word}
 use Rattle.side.proofs.Accepted.{good-word}
 use Rattle.side.proofs.Words.{bad-zero, bad-order, bad-inside, first-bad, all-good, good-next}
 use Rattle.side.proofs.inner.first_bad.Goals.{then-from-k+else-word-word_indices, else-from-k}

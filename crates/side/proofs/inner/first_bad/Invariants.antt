@@ -1,14 +1,8 @@
 -- `side::inner::first_bad` meets its contract. The invariant: the words before k are good. Assumes nothing.
-use mathlib.Core.Path.{◌≡◌, sym, ◌∙◌}
-use mathlib.Core.Logic.{⊎_elim}
+use mathlib.Core.Path.{◌≡◌}
 use mathlib.Core.Bool.{true}
 use Prim.Native.Nat.{ℕ, ◌-◌, ◌≤◌, ◌<◌}
-use native.Mathlib.Omega.{arith}
-use borrow.Author.Rules.{rules}
-use borrow.Author.Tests.{not-true, not-false}
 use Rattle.side.specs.Check.{good_word}
-use Rattle.side.proofs.Accepted.{good-word}
-use Rattle.side.proofs.Words.{bad-zero, bad-order, bad-inside, first-bad, all-good, good-next}
 use Rattle.side.proofs.inner.first_bad.Given as goal
 
 abbrev pub invariant-loop-k : goal.invariant-loop-k

@@ -1,8 +1,6 @@
 -- `side::inner::lower` meets its contract. The invariant: the words before lo are less, those from hi on are not. Assumes nothing.
-use Prim.Native.Nat.{◌-◌}
 use native.Mathlib.Omega.{arith}
-use borrow.Author.Rules.{rules}
-use Rattle.side.proofs.Searches.{Bracket, bracket-up, bracket-down, bracket-end}
+use Rattle.side.proofs.Searches.{bracket-up, bracket-down, bracket-end}
 use Rattle.side.proofs.inner.lower.Goals as goal
 
 pub loop-lo-init : goal.loop-lo-init

@@ -1,5 +1,4 @@
 -- `side::inner::row_select` meets its contract. Assumes nothing.
-use borrow.Author.Rules.{rules}
 use Prim.Native.Nat.{◌+◌}
 use native.Mathlib.Omega.{arith}
 use Rattle.side.proofs.AtRow.{at_up, at_words, at-masks, at_row, at-inside}

@@ -1,5 +1,4 @@
 -- `side::inner::row_word` meets its contract. Assumes nothing.
-use borrow.Author.Rules.{rules}
 use Rattle.side.specs.declared.WordAt.{WordAt}
 use mathlib.Core.Path.{ap, ◌∙◌}
 use Prim.Native.Nat.{◌+◌}

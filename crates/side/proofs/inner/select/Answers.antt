@@ -1,9 +1,8 @@
 -- `side::inner::select` meets its contract. The invariant: `left` is what is left of the ordinal after the columns of the words before k. Assumes nothing.
 use mathlib.Core.Path.{◌≡◌, sym, ap, ◌∙◌}
-use Prim.Native.Nat.{ℕ, ◌+◌, ◌-◌, ◌*◌, ◌≤◌, ◌<◌}
+use Prim.Native.Nat.{ℕ, ◌+◌, ◌*◌, ◌<◌}
 use native.Mathlib.Omega.{arith}
 use lib.ListN.{get_or}
-use borrow.Author.Rules.{rules}
 use Rattle.base.specs.Sets.{count_below}
 use Rattle.word.specs.Bits.{bit_at}
 use Rattle.word.specs.Answers.{select_answer}

@@ -1,15 +1,12 @@
 -- `side_sets::inner::combine` meets its contract. The invariant: the rows before `row` are written. Assumes nothing.
 use mathlib.Core.Path.{◌∙◌}
-use Prim.Native.Nat.{ℕ, ◌+◌, ◌-◌}
+use Prim.Native.Nat.{ℕ, ◌+◌}
 use native.Mathlib.Omega.{arith}
-use lib.ListN.{length, set, length-set}
+use lib.ListN.{set, length-set}
 use lib.Seq.{get_or-set_same, drop-set-lt}
-use borrow.Author.Rules.{rules}
 use Rattle.word.specs.Answers.{on}
 use Rattle.word.proofs.Answers.{off}
-use Rattle.side.specs.Side.{side_holds}
-use Rattle.side_sets.specs.Sets.{pairwise_pairs}
-use Rattle.side_sets.proofs.Rows.{Sofar, Step, sofar-none, left-row, right-row, words-room, masks_room, in-limit, in-masks, row-few, pairs_fit, sofar-next, sofar-limit, whole-counts, whole_words, whole-masks, whole-pointers}
+use Rattle.side_sets.proofs.Rows.{Step, sofar-none, left-row, right-row, words-room, masks_room, in-limit, in-masks, row-few, pairs_fit, sofar-next, sofar-limit, whole-counts, whole_words, whole-masks, whole-pointers}
 use Rattle.side_sets.proofs.inner.combine.Goals.{After-wide-b_end, At-loop-row, Start}
 use Rattle.side_sets.proofs.inner.combine.Goals as goal
 

@@ -1,11 +1,7 @@
 -- `side_sets::inner::combine_row` meets its contract. The invariant: the words below a bound are merged, and both rows go on at or past it. Assumes nothing.
-use Prim.Native.Nat.{ℕ, ◌+◌, ◌-◌}
-use native.Mathlib.Omega.{arith}
-use borrow.Author.Rules.{rules}
+use Prim.Native.Nat.{◌+◌, ◌-◌}
 use Rattle.word.specs.Answers.{on}
-use Rattle.word.proofs.Answers.{off}
-use Rattle.side_sets.specs.declared.inner.Taken.{Taken}
-use Rattle.side_sets.proofs.Merging.{Merging, Turn, merge-start, merge-end, goes_on, within, in-room, merge-skip, merge-put}
+use Rattle.side_sets.proofs.Merging.{Merging}
 use Rattle.side_sets.proofs.inner.combine_row.Given as goal
 
 abbrev pub invariant-loop-a : goal.invariant-loop-a

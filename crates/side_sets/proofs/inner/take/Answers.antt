@@ -1,5 +1,4 @@
 -- `side_sets::inner::take` meets its contract. Assumes nothing.
-use borrow.Author.Rules.{rules}
 use mathlib.Core.Path.{sym}
 use native.Mathlib.Omega.{arith}
 use Rattle.side_sets.proofs.Taking.{taken_here, taken-past, taken-other}

@@ -1,5 +1,4 @@
 -- `topology::AbtmTopologyStats::average_word_nnz` meets its contract. Assumes nothing.
-use borrow.Author.Rules.{rules}
 use Rattle.topology.proofs.Ratios.{ratio-none, ratio-some}
 use Rattle.topology.proofs.AbtmTopologyStats.average_word_nnz.Goals as goal
 

@@ -1,5 +1,4 @@
 -- `topology::AbtmTopologyStats::metadata_bytes_per_nnz` meets its contract. Assumes nothing.
-use borrow.Author.Rules.{rules}
 use Rattle.topology.proofs.Ratios.{ratio-none, ratio-some}
 use Rattle.topology.proofs.AbtmTopologyStats.metadata_bytes_per_nnz.Goals as goal
 
