@@ -10,7 +10,6 @@ use Rattle.mask.specs.Mask.{words_needed, length_check}
 use Rattle.dof_layout.specs.Layout.{total_of, layout_check, IsLayout}
 use Rattle.dof_layout.proofs.Layouts.{offsets-count, accepted-layout, total-is}
 use Rattle.field_region.specs.Closure.{close_check}
-use borrow.Author.Rules.{rules}
 use Rattle.field_region.proofs.check_close.Goals.{After-words_for, In-Accepted, In-Accepted-check_length}
 use Rattle.field_region.proofs.check_close.Goals as goal
 

@@ -1,5 +1,4 @@
 -- `field_region::check_owners` meets its contract. Assumes nothing.
-use borrow.Author.Rules.{rules}
 use mathlib.Core.Path.{sym, ◌∙◌}
 use Rattle.base.proofs.Checks.{group-pass, group-stop}
 use Rattle.dof_layout.proofs.Layouts.{accepted-layout, none-empty}

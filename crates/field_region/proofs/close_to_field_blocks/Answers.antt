@@ -14,7 +14,6 @@ use Rattle.dof_layout.specs.Layout.{total_of, block_of, IsLayout}
 use Rattle.graph.specs.Network.{closed}
 use Rattle.field_region.specs.Closure.{close_check, closed_words}
 use Rattle.field_region.proofs.Closing.{accepted-close}
-use borrow.Author.Rules.{rules}
 use Rattle.field_region.proofs.close_to_field_blocks.Goals.{After-words_for-need, In-Accepted}
 use Rattle.field_region.proofs.close_to_field_blocks.Goals as goal
 

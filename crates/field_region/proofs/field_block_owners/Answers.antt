@@ -5,7 +5,6 @@ use Rattle.base.specs.declared.Counted.{Counted}
 use Rattle.base.proofs.Checks.{on-accepted, on-refused, kept}
 use Rattle.field_region.specs.Owners.{owners_check}
 use Rattle.field_region.proofs.Owning.{accepted-owners}
-use borrow.Author.Rules.{rules}
 use Rattle.dof_layout.proofs.Layouts.{none-empty}
 use Rattle.field_region.proofs.field_block_owners.Goals.{In-Accepted}
 use Rattle.field_region.proofs.field_block_owners.Goals as goal
@@ -26,6 +25,6 @@ returns-in-Refused c =
 
 pub returns-in-Accepted : goal.returns-in-Accepted
 returns-in-Accepted c = record {
-      value = on-accepted _ _ _ _ (ok (goal.at.returns-in-Accepted c).In-Accepted) refl;
-      out_after = on-accepted _ _ _ _ (ok (goal.at.returns-in-Accepted c).In-Accepted) c.write_owners.ensures;
-    }
+  value = on-accepted _ _ _ _ (ok (goal.at.returns-in-Accepted c).In-Accepted) refl;
+  out_after = on-accepted _ _ _ _ (ok (goal.at.returns-in-Accepted c).In-Accepted) c.write_owners.ensures;
+}

@@ -1,5 +1,4 @@
 -- `field_region::inner::check_owned` meets its contract. Assumes nothing.
-use borrow.Author.Rules.{rules}
 use mathlib.Core.Path.{◌≡◌, refl, sym, ap, ◌∙◌}
 use mathlib.Core.Bool.{true, not}
 use Prim.Native.Nat.{ℕ}

@@ -1,15 +1,13 @@
 -- `field_region::inner::close` meets its contract. The invariant: the words before w are copied. Assumes nothing.
 use mathlib.Core.Path.{◌≡◌, refl, sym, ap, ◌∙◌, subst}
-use Prim.Native.Nat.{◌-◌, ◌≤◌, ◌<◌}
+use Prim.Native.Nat.{◌<◌}
 use native.Mathlib.Omega.{arith}
 use lib.ListN.{length, length-set}
-use Rattle.base.specs.Lists.{written}
 use Rattle.base.proofs.Lists.{put_next, put_whole}
 use Rattle.mask.specs.Mask.{IsMask}
 use Rattle.mask.proofs.Masks.{is-length}
 use Rattle.dof_layout.specs.Layout.{total_of}
 use Rattle.field_region.specs.Closure.{closed_words}
-use borrow.Author.Rules.{rules}
 use Rattle.field_region.proofs.inner.close.Goals.{After-loop-w}
 use Rattle.field_region.proofs.inner.close.Goals as goal
 

@@ -8,19 +8,16 @@ use native.Mathlib.Omega.{arith}
 use native.Mathlib.Nat.{lt_of_le_of_lt}
 use native.Mathlib.Numerals.{add-one}
 use lib.Bits.{bit_and, and_le_l}
-use lib.Dec.{T}
 use lib.ListN.{length, get_or, length-set}
-use Rattle.base.proofs.Sets.{None}
 use Rattle.word.proofs.Turns.{none-turn, some_turn}
 use Rattle.mask.specs.Mask.{in_mask, words_needed, mask_words, IsMask}
 use Rattle.mask.specs.Answers.{with_range}
 use Rattle.mask.proofs.Masks.{mask_is, is-length}
-use Rattle.mask.proofs.Nexts.{NoMember, next-is}
+use Rattle.mask.proofs.Nexts.{next-is}
 use Rattle.mask.proofs.Stores.{in_range, range-bits, range-ahead}
 use Rattle.dof_layout.specs.Layout.{start_of, total_of}
 use Rattle.dof_layout.proofs.Layouts.{total-at, offsets-count, start-mono, total-is}
 use Rattle.field_region.proofs.Closing.{closed_to, closing-none, closing-take, closing-leave, closing-all, range-passed, range-one}
-use borrow.Author.Rules.{rules}
 use Rattle.field_region.proofs.inner.close_in_place.Goals.{After-slice_known-in-loop-w-1, At-loop-w, In-blocks-2}
 use Rattle.field_region.proofs.inner.close_in_place.Goals as goal
 
@@ -64,8 +61,7 @@ module _ (c : In-blocks-2) where
 
 pub blocks-2-preserved-then-end-next : goal.blocks-2-preserved-then-end-next
 blocks-2-preserved-then-end-next c =
-    let o = c.blocks-2 in
-    (
+    let o = c.blocks-2 in (
       omega (arith, c.blocks-2-test.true),
       o.invariant.1,
       closing-leave (cs (goal.at.blocks-2-preserved-then-end-next c).In-blocks-2) (in_mask c.args.words.now) o.b o.words c.blocks-2-test.true o.invariant.2 _ _ (starts (goal.at.blocks-2-preserved-then-end-next c).In-blocks-2) (ends (goal.at.blocks-2-preserved-then-end-next c).In-blocks-2) (end (goal.at.blocks-2-preserved-then-end-next c).In-blocks-2) (omega arith) (range-passed o.words (start (goal.at.blocks-2-preserved-then-end-next c).In-blocks-2) (end (goal.at.blocks-2-preserved-then-end-next c).In-blocks-2) o.next o.invariant.3 c.if-end-next.true (64 * end (goal.at.blocks-2-preserved-then-end-next c).In-blocks-2)),

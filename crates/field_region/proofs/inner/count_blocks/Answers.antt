@@ -1,8 +1,7 @@
 -- `field_region::inner::count_blocks` meets its contract. The invariant: the blocks before b are counted. Assumes nothing.
 use mathlib.Core.Path.{◌≡◌, sym, ap, ◌∙◌, subst}
-use mathlib.Core.Logic.{⊎_elim}
 use mathlib.Core.Bool.{Bool, false}
-use Prim.Native.Nat.{ℕ, ◌-◌, ◌≤◌}
+use Prim.Native.Nat.{ℕ}
 use native.Mathlib.Omega.{arith}
 use lib.ListN.{length}
 use Rattle.base.specs.Sets.{count_below, one_if}
@@ -11,7 +10,6 @@ use Rattle.mask.specs.Mask.{in_mask, IsMask}
 use Rattle.dof_layout.specs.Layout.{start_of}
 use Rattle.dof_layout.proofs.Layouts.{total-at, offsets-count, total-is}
 use Rattle.field_region.proofs.Growing.{start-below}
-use borrow.Author.Rules.{rules}
 use Rattle.field_region.proofs.inner.count_blocks.Goals.{else-holds, then-holds}
 use Rattle.field_region.proofs.inner.count_blocks.Goals as goal
 

@@ -3,10 +3,9 @@ use mathlib.Core.Path.{◌≡◌, refl, sym, ap, ◌∙◌, subst}
 use mathlib.Core.Logic.{inl, inr}
 use mathlib.Core.Bool.{Bool, false}
 use mathlib.Core.List.{List}
-use Prim.Native.Nat.{ℕ, suc, ◌-◌, ◌≤◌}
+use Prim.Native.Nat.{ℕ, suc, ◌≤◌}
 use native.Mathlib.Omega.{arith}
 use lib.ListN.{length, get_or}
-use Rattle.base.proofs.Checks.{call-no, call-yes}
 use Rattle.base.specs.Checks.{side_limit}
 use Rattle.mask.specs.Mask.{IsMask, in_mask, mask_words, words_needed}
 use Rattle.mask.proofs.Masks.{mask-length, is-of}
@@ -17,12 +16,11 @@ use Rattle.dual_topology.specs.Check.{IsTopology}
 use Rattle.graph.specs.Network.{Network, closed, visited, region_words, frontier_words}
 use Rattle.growth.specs.Visits.{Small}
 use Rattle.growth.proofs.Visits.{visits-small}
-use Rattle.growth.proofs.Growing.{Growing, region-mask, frontier-mask, growing-first, counted, growing-turn, growing-last}
+use Rattle.growth.proofs.Growing.{region-mask, frontier-mask, growing-first, counted, growing-turn, growing-last}
 use Rattle.field_region.specs.Closure.{closed_words}
 use Rattle.field_region.specs.Growth.{blocks_grown_by}
 use Rattle.field_region.specs.declared.BlocksGrown.{BlocksGrown}
 use Rattle.field_region.proofs.Growing.{network, network-is, network-whole, closed-here, closed_after, closed-count, blocks-grown}
-use borrow.Author.Rules.{rules}
 use Rattle.field_region.proofs.inner.grow_blocks.Goals.{Start}
 use Rattle.field_region.proofs.inner.grow_blocks.Goals as goal
 

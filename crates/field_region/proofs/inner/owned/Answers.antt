@@ -1,13 +1,12 @@
 -- `field_region::inner::owned` meets its contract. The invariant: the nodes from start up to i have the owner. Assumes nothing.
 use mathlib.Core.Path.{sym}
-use Prim.Native.Nat.{ℕ, ◌-◌, ◌≤◌, ◌<◌}
+use Prim.Native.Nat.{◌≤◌}
 use native.Mathlib.Omega.{arith}
 use borrow.Author.Tests.{eq-eqb}
 use lib.Dec.{T, eqb, eqb→eq}
 use lib.ListN.{get_or}
 use Rattle.base.proofs.Bools.{T_of}
 use Rattle.base.proofs.Sets.{below_next, every-from, not-every}
-use borrow.Author.Rules.{rules}
 use Rattle.field_region.proofs.inner.owned.Goals as goal
 
 pub loop-i-init : goal.loop-i-init
