@@ -12,8 +12,5 @@ returns-then-offset-eq-BITS c = rank-all _ _ _ c.if-offset-eq-BITS.true c.popcou
 pub overflow_sub-below : goal.overflow_sub-below
 overflow_sub-below c = shl-pos _ (search rules)
 
-pub overflow_cast-count : goal.overflow_cast-count
-overflow_cast-count c = rank-fits c.args.self.mask _ (search rules)
-
 pub returns : goal.returns
 returns c = rank-in _ c.args.offset (search rules)
