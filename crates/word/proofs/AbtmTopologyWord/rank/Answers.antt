@@ -1,6 +1,6 @@
 -- `word::AbtmTopologyWord::rank` meets its contract. Assumes nothing.
 use borrow.Author.Rules.{rules}
-use Rattle.word.proofs.Answers.{rank-out, rank-all, rank-in, rank-fits, shl-pos}
+use Rattle.word.proofs.Answers.{rank-out, rank-all, rank-in, shl-pos}
 use Rattle.word.proofs.AbtmTopologyWord.rank.Goals as goal
 
 pub returns-then-offset-gt-BITS : goal.returns-then-offset-gt-BITS
