@@ -1,6 +1,7 @@
 // What every crate of the port stands on: the numbered refusal, the limits, and scans of a list. Its specs/ and proofs/ hold what all
 // promises are made of: the chain of checks, sets of numbers, and lists written over the front of a lent list.
 #![tactic(auto)]
+
 ghost use Rattle.std.specs.Prelude.{◌≡◌};
 ghost use Rattle.base.specs.Checks.{plain, refusal_of_length};
 

@@ -1,5 +1,6 @@
 // A sparse matrix in compressed row form: its check, and what it means for a pair to be stored.
 #![tactic(auto)]
+
 ghost use Rattle.std.specs.Prelude.{◌≡◌};
 ghost use Rattle.base.specs.Lists.{every};
 ghost use Rattle.csr32.specs.Matrix.{finite, matrix_check};

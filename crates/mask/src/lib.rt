@@ -1,5 +1,6 @@
 // A mask: a length, and 64-bit words; node i is bit i mod 64 of word i / 64. The functions of DofMask on a lent word list.
 #![tactic(auto)]
+
 ghost use Rattle.std.specs.Prelude.{◌≡◌};
 ghost use Rattle.word.specs.Answers.{on};
 ghost use Rattle.mask.specs.Mask.{mask_check};

@@ -11,7 +11,7 @@ use borrow.Author.Tests.{eq-eqb, ne_eqb}
 use lib.Bits.{bit_and, and_le_r}
 use lib.ListN.{length, get_or, set, replicate, length-set, length-replicate, get_or-replicate}
 use lib.Seq.{get_or-set_same, get_or-set_other}
-use lib.Dec.{T, eqb}
+use lib.Dec.{eqb}
 use Rattle.base.proofs.Bools.{T_of, not-T-of, lt-or-le, eq-or-ne}
 use Rattle.base.proofs.Sets.{None, First, any_none, first-is, first-none, first-at, below_next}
 use Rattle.twins.specs.Keys.{same_key, repeated, lowest_twin, spread_at, class_at, home_at, StandsIn, Table, Twin}

@@ -1,6 +1,7 @@
 // A word of a topology row: 64 columns, bit i of the mask for column word_index * 64 + i. The laws of bits stand in proofs/, once for all
 // crates above.
 #![tactic(auto)]
+
 ghost use Rattle.std.specs.Prelude.{◌≡◌, ◌*◌};
 ghost use Rattle.base.specs.Sets.{count_below};
 ghost use Rattle.word.specs.Bits.{bit_at, word_from};

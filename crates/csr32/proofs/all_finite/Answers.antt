@@ -1,12 +1,9 @@
 use mathlib.Core.Path.{◌≡◌, refl, sym, ◌∙◌, subst}
-use mathlib.Core.Logic.{⊎_elim}
 use mathlib.Core.Bool.{Bool, ◌&&◌}
-use Prim.Native.Nat.{◌+◌, ◌-◌, ◌≤◌}
+use Prim.Native.Nat.{◌+◌}
 use native.Mathlib.Omega.{arith}
-use lib.ListN.{length, drop}
+use lib.ListN.{drop}
 use lib.Ieee.{nan}
-use borrow.Author.Rules.{rules}
-use borrow.Author.Tests.{not-true, not-false}
 use Rattle.base.specs.Lists.{every}
 use Rattle.csr32.specs.Matrix.{finite}
 use Rattle.base.proofs.Lists.{found-pass, found-fail, found-last}
@@ -23,8 +20,8 @@ loop-i-preserved c =
     let Found : Bool → Type 0 = λ a. every finite xs ≡ (a && every finite (drop (c.loop-i.i + 1) xs)) in (
       omega arith,
       elim c.if-not-is_finite.branch [
-        then-not-is_finite w ↦ subst Found (sym w.all-is) (found-fail finite nan xs c.loop-i.all c.loop-i.i (omega arith) (sym finite-is ∙ w.if-not-is_finite.true) c.loop-i.invariant.1)
-      | else-not-is_finite w ↦ subst Found (sym w.all-is) (found-pass finite nan xs c.loop-i.all c.loop-i.i (omega arith) (sym finite-is ∙ w.if-not-is_finite.false) c.loop-i.invariant.1)
+        | then-not-is_finite w ↦ subst Found (sym w.all-is) (found-fail finite nan xs c.loop-i.all c.loop-i.i (omega arith) (sym finite-is ∙ w.if-not-is_finite.true) c.loop-i.invariant.1)
+        | else-not-is_finite w ↦ subst Found (sym w.all-is) (found-pass finite nan xs c.loop-i.all c.loop-i.i (omega arith) (sym finite-is ∙ w.if-not-is_finite.false) c.loop-i.invariant.1)
       ],
     )
 

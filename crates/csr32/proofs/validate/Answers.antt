@@ -1,4 +1,3 @@
-use borrow.Author.Rules.{rules}
 use Rattle.csr32.specs.Matrix.{matrix_check}
 use Rattle.base.proofs.Checks.{checks, pass}
 use Rattle.csr32.proofs.validate.Goals as goal

@@ -2,7 +2,6 @@
 use borrow.Author.Tests.{le-leb, lt-leb}
 use Rattle.base.proofs.Checks.{pass, stop}
 use Rattle.mask.specs.Mask.{mask_check}
-use borrow.Author.Rules.{rules}
 use Rattle.mask.proofs.check.Goals as goal
 
 pub returns-then-len-gt-SIDE_LIMIT : goal.returns-then-len-gt-SIDE_LIMIT

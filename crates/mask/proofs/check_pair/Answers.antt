@@ -6,7 +6,6 @@ use Rattle.base.proofs.Checks.{group-pass, group-stop}
 use Rattle.mask.specs.Mask.{mask_check, IsMask}
 use Rattle.mask.specs.Answers.{pair_check}
 use Rattle.mask.proofs.Masks.{accepted-mask}
-use borrow.Author.Rules.{rules}
 use Rattle.mask.proofs.check_pair.Goals.{In-Accepted}
 use Rattle.mask.proofs.check_pair.Goals as goal
 

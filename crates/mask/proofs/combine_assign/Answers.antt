@@ -6,7 +6,6 @@ use Rattle.base.proofs.Checks.{on-accepted, kept}
 use Rattle.mask.specs.Mask.{IsMask}
 use Rattle.mask.specs.Answers.{pair_check}
 use Rattle.mask.proofs.Masks.{accepted-pair}
-use borrow.Author.Rules.{rules}
 use Rattle.mask.proofs.combine_assign.Goals.{In-Accepted}
 use Rattle.mask.proofs.combine_assign.Goals as goal
 
@@ -29,6 +28,6 @@ returns-in-Refused c =
 
 pub returns-in-Accepted : goal.returns-in-Accepted
 returns-in-Accepted c = record {
-      value = sym (ok (goal.at.returns-in-Accepted c).In-Accepted);
-      words_after = on-accepted _ _ _ _ (ok (goal.at.returns-in-Accepted c).In-Accepted) c.combine.ensures;
-    }
+  value = sym (ok (goal.at.returns-in-Accepted c).In-Accepted);
+  words_after = on-accepted _ _ _ _ (ok (goal.at.returns-in-Accepted c).In-Accepted) c.combine.ensures;
+}

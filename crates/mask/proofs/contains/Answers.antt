@@ -6,7 +6,6 @@ use Rattle.base.proofs.Checks.{on-accepted, on-refused}
 use Rattle.mask.specs.Mask.{mask_check, IsMask}
 use Rattle.base.specs.declared.Truth.{Truth}
 use Rattle.mask.proofs.Masks.{accepted-mask, within, past}
-use borrow.Author.Rules.{rules}
 use Rattle.mask.proofs.contains.Goals.{In-Accepted}
 use Rattle.mask.proofs.contains.Goals as goal
 

@@ -6,7 +6,6 @@ use Rattle.base.proofs.Checks.{on-accepted, on-refused}
 use Rattle.mask.specs.Mask.{mask_check, IsMask}
 use Rattle.base.specs.declared.Counted.{Counted}
 use Rattle.mask.proofs.Masks.{accepted-mask}
-use borrow.Author.Rules.{rules}
 use Rattle.mask.proofs.count_ones.Goals.{In-Accepted}
 use Rattle.mask.proofs.count_ones.Goals as goal
 

@@ -7,11 +7,10 @@ use lib.ListN.{length, drop}
 use mathlib.Core.List.{List, ◌++◌}
 use lib.Seq.{length-take-le}
 use Rattle.base.specs.Lists.{is_in}
-use Rattle.base.proofs.Checks.{on-accepted, kept, pass, stop, last-pass, last-stop, call-no, call-yes}
+use Rattle.base.proofs.Checks.{on-accepted, kept, pass, stop, last-pass, last-stop}
 use Rattle.mask.specs.Mask.{words_needed, mask_words}
 use Rattle.mask.specs.Answers.{from_check}
 use Rattle.mask.proofs.Masks.{mask-length}
-use borrow.Author.Rules.{rules}
 use Rattle.mask.proofs.from_indices.Goals as goal
 
 pub returns-then-len-gt-SIDE_LIMIT : goal.returns-then-len-gt-SIDE_LIMIT

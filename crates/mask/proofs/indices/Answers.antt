@@ -11,7 +11,6 @@ use Rattle.mask.specs.Mask.{in_mask, mask_check, IsMask}
 use Rattle.mask.specs.Answers.{indices_check}
 use Rattle.base.specs.declared.Counted.{Counted}
 use Rattle.mask.proofs.Masks.{accepted-mask}
-use borrow.Author.Rules.{rules}
 use Rattle.mask.proofs.indices.Goals.{Else-out-count, In-Accepted}
 use Rattle.mask.proofs.indices.Goals as goal
 

@@ -7,7 +7,6 @@ use Rattle.mask.specs.Mask.{IsMask}
 use Rattle.mask.specs.Answers.{pair_check}
 use Rattle.base.specs.declared.Truth.{Truth}
 use Rattle.mask.proofs.Masks.{accepted-pair}
-use borrow.Author.Rules.{rules}
 use Rattle.mask.proofs.intersects.Goals.{In-Accepted}
 use Rattle.mask.proofs.intersects.Goals as goal
 

@@ -7,7 +7,6 @@ use Rattle.base.proofs.Checks.{on-accepted, on-refused}
 use Rattle.mask.specs.Mask.{mask_check, IsMask}
 use Rattle.base.specs.declared.Truth.{Truth}
 use Rattle.mask.proofs.Masks.{accepted-mask}
-use borrow.Author.Rules.{rules}
 use Rattle.mask.proofs.is_empty.Goals.{In-Accepted}
 use Rattle.mask.proofs.is_empty.Goals as goal
 

@@ -11,7 +11,6 @@ use Rattle.base.proofs.Checks.{on-accepted, kept, pass, stop, last-pass, last-st
 use Rattle.mask.specs.Mask.{words_needed, mask_words}
 use Rattle.mask.specs.Answers.{new_check}
 use Rattle.mask.proofs.Masks.{mask-length}
-use borrow.Author.Rules.{rules}
 use Rattle.mask.proofs.new.Goals as goal
 
 pub returns-then-len-gt-SIDE_LIMIT : goal.returns-then-len-gt-SIDE_LIMIT

@@ -5,7 +5,6 @@ use Rattle.base.specs.declared.Checked.{Checked}
 use Rattle.base.proofs.Checks.{on-accepted, kept}
 use Rattle.mask.specs.Mask.{mask_check, IsMask}
 use Rattle.mask.proofs.Masks.{accepted-mask}
-use borrow.Author.Rules.{rules}
 use Rattle.mask.proofs.or_word.Goals.{In-Accepted}
 use Rattle.mask.proofs.or_word.Goals as goal
 
@@ -28,6 +27,6 @@ returns-in-Refused c =
 
 pub returns-in-Accepted : goal.returns-in-Accepted
 returns-in-Accepted c = record {
-      value = sym (ok (goal.at.returns-in-Accepted c).In-Accepted);
-      words_after = on-accepted _ _ _ _ (ok (goal.at.returns-in-Accepted c).In-Accepted) c.or_word.ensures;
-    }
+  value = sym (ok (goal.at.returns-in-Accepted c).In-Accepted);
+  words_after = on-accepted _ _ _ _ (ok (goal.at.returns-in-Accepted c).In-Accepted) c.or_word.ensures;
+}

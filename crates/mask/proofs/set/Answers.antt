@@ -7,7 +7,6 @@ use Rattle.base.proofs.Checks.{on-accepted, kept, group-pass, group-stop, last-p
 use Rattle.mask.specs.Mask.{mask_check, IsMask}
 use Rattle.mask.specs.Answers.{set_check}
 use Rattle.mask.proofs.Masks.{accepted-mask}
-use borrow.Author.Rules.{rules}
 use Rattle.mask.proofs.set.Goals.{In-Accepted}
 use Rattle.mask.proofs.set.Goals as goal
 

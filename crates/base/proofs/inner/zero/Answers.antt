@@ -1,10 +1,9 @@
 -- `base::inner::zero` meets its contract. The invariant: the places before i are zero. Assumes nothing.
 use mathlib.Core.Path.{◌≡◌, refl, sym, ap, ◌∙◌}
 use mathlib.Core.List.{List}
-use Prim.Native.Nat.{ℕ, ◌-◌, ◌≤◌, ◌<◌}
+use Prim.Native.Nat.{ℕ, ◌<◌}
 use native.Mathlib.Omega.{arith}
 use lib.ListN.{length, set, length-set}
-use borrow.Author.Rules.{rules}
 use Rattle.base.specs.Lists.{zeroed}
 use Rattle.base.proofs.Lists.{zero-none, zero-next}
 use Rattle.base.proofs.inner.zero.Goals as goal

@@ -1,11 +1,9 @@
 use mathlib.Core.Path.{◌≡◌, refl, sym, ap, ◌∙◌, subst}
-use mathlib.Core.Logic.{⊎_elim}
 use mathlib.Core.Bool.{◌&&◌}
-use Prim.Native.Nat.{ℕ, ◌+◌, ◌-◌, ◌≤◌}
+use Prim.Native.Nat.{ℕ, ◌+◌}
 use native.Mathlib.Omega.{arith}
 use lib.Dec.{ltb}
-use lib.ListN.{length, drop}
-use borrow.Author.Rules.{rules}
+use lib.ListN.{drop}
 use Rattle.base.specs.Lists.{every, below}
 use Rattle.base.proofs.Lists.{every-end, found-last, top-first, top-more, top-same}
 use Rattle.base.proofs.scan.all_below.Goals.{then-x-top, else-x-top}
@@ -25,8 +23,8 @@ loop-i-preserved c =
     let Kept : ℕ → Type 0 = λ t. every (below b) xs ≡ (ltb t b && every (below b) (drop (c.loop-i.i + 1) xs)) in (
       omega arith,
       elim c.if-x-top.branch [
-        then-x-top w ↦ subst Kept (sym w.top-is) (top-more b xs c.loop-i.top c.loop-i.i (omega arith) w.if-x-top.true c.loop-i.invariant.1)
-      | else-x-top w ↦ subst Kept (sym w.top-is) (top-same b xs c.loop-i.top c.loop-i.i (omega arith) (omega (arith, w.if-x-top.false)) c.loop-i.invariant.1)
+        | then-x-top w ↦ subst Kept (sym w.top-is) (top-more b xs c.loop-i.top c.loop-i.i (omega arith) w.if-x-top.true c.loop-i.invariant.1)
+        | else-x-top w ↦ subst Kept (sym w.top-is) (top-same b xs c.loop-i.top c.loop-i.i (omega arith) (omega (arith, w.if-x-top.false)) c.loop-i.invariant.1)
       ],
     )
 

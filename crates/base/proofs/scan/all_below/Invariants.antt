@@ -1,13 +1,9 @@
-use mathlib.Core.Path.{◌≡◌, refl, sym, ap, ◌∙◌, subst}
-use mathlib.Core.Logic.{⊎_elim}
+use mathlib.Core.Path.{◌≡◌}
 use mathlib.Core.Bool.{◌&&◌}
-use Prim.Native.Nat.{ℕ, ◌+◌, ◌-◌, ◌≤◌}
-use native.Mathlib.Omega.{arith}
+use Prim.Native.Nat.{◌-◌, ◌≤◌}
 use lib.Dec.{ltb}
 use lib.ListN.{length, drop}
-use borrow.Author.Rules.{rules}
 use Rattle.base.specs.Lists.{every, below}
-use Rattle.base.proofs.Lists.{every-end, found-last, top-first, top-more, top-same}
 use Rattle.base.proofs.scan.all_below.Given as goal
 
 abbrev pub invariant-loop-i : goal.invariant-loop-i

@@ -1,9 +1,7 @@
 -- `base::scan::all_below_wide` meets its contract. The scan's invariant: the test of the whole list is the test of what is left. Assumes nothing.
-use mathlib.Core.Path.{◌≡◌, sym}
-use Prim.Native.Nat.{◌-◌, ◌≤◌}
-use lib.ListN.{length, drop}
+use mathlib.Core.Path.{sym}
 use borrow.Author.Tests.{lt-ltb, le-ltb}
-use Rattle.base.specs.Lists.{every, below}
+use Rattle.base.specs.Lists.{below}
 use Rattle.base.proofs.Lists.{every-step, every-stop, every-end}
 use borrow.Author.Rules.{rules}
 use Rattle.base.proofs.scan.all_below_wide.Goals as goal

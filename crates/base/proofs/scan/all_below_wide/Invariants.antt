@@ -1,11 +1,8 @@
 -- `base::scan::all_below_wide` meets its contract. The scan's invariant: the test of the whole list is the test of what is left. Assumes nothing.
-use mathlib.Core.Path.{◌≡◌, sym}
+use mathlib.Core.Path.{◌≡◌}
 use Prim.Native.Nat.{◌-◌, ◌≤◌}
 use lib.ListN.{length, drop}
-use borrow.Author.Tests.{lt-ltb, le-ltb}
 use Rattle.base.specs.Lists.{every, below}
-use Rattle.base.proofs.Lists.{every-step, every-stop, every-end}
-use borrow.Author.Rules.{rules}
 use Rattle.base.proofs.scan.all_below_wide.Given as goal
 
 abbrev pub invariant-loop-i : goal.invariant-loop-i

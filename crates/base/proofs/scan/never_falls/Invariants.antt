@@ -1,12 +1,7 @@
-use mathlib.Core.Path.{◌≡◌, sym, ◌∙◌}
+use mathlib.Core.Path.{◌≡◌}
 use Prim.Native.Nat.{◌-◌, ◌≤◌}
-use native.Mathlib.Omega.{arith}
-use lib.ListN.{length, drop, length-drop}
-use lib.Dec.{leb}
-use borrow.Author.Rules.{rules}
-use borrow.Author.Tests.{le-leb, lt-leb}
+use lib.ListN.{length, drop}
 use Rattle.base.specs.Lists.{rising}
-use Rattle.base.proofs.Lists.{pairwise-step, pairwise-stop, pairwise-short}
 use Rattle.base.proofs.scan.never_falls.Given as goal
 
 abbrev pub invariant-loop-i : goal.invariant-loop-i

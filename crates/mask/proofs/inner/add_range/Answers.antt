@@ -1,14 +1,13 @@
 -- `mask::inner::add_range` meets its contract. The invariant: the nodes of the range below word w are in. Assumes nothing.
-use mathlib.Core.Path.{◌≡◌, refl, ap, ◌∙◌}
+use mathlib.Core.Path.{refl, ap, ◌∙◌}
 use mathlib.Core.List.{List}
-use Prim.Native.Nat.{ℕ, ◌-◌, ◌/◌, ◌^◌, ◌≤◌, ◌<◌}
+use Prim.Native.Nat.{ℕ, ◌-◌, ◌^◌, ◌<◌}
 use native.Mathlib.Omega.{arith}
 use lib.Bits.{bit_and, bit_or}
 use lib.ListN.{length, get_or, set, length-set}
-use Rattle.mask.specs.Mask.{words_needed, mask_words}
+use Rattle.mask.specs.Mask.{words_needed}
 use Rattle.mask.proofs.Masks.{is-length}
-use Rattle.mask.proofs.Stores.{ranged, range_none, range-turn, range-done}
-use borrow.Author.Rules.{rules}
+use Rattle.mask.proofs.Stores.{range_none, range-turn, range-done}
 use Rattle.mask.proofs.inner.add_range.Goals.{In-loop-w}
 use Rattle.mask.proofs.inner.add_range.Goals as goal
 

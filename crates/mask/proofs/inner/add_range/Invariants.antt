@@ -1,14 +1,9 @@
 -- `mask::inner::add_range` meets its contract. The invariant: the nodes of the range below word w are in. Assumes nothing.
-use mathlib.Core.Path.{◌≡◌, refl, ap, ◌∙◌}
-use mathlib.Core.List.{List}
-use Prim.Native.Nat.{ℕ, ◌-◌, ◌/◌, ◌^◌, ◌≤◌, ◌<◌}
-use native.Mathlib.Omega.{arith}
-use lib.Bits.{bit_and, bit_or}
-use lib.ListN.{length, get_or, set, length-set}
-use Rattle.mask.specs.Mask.{words_needed, mask_words}
-use Rattle.mask.proofs.Masks.{is-length}
-use Rattle.mask.proofs.Stores.{ranged, range_none, range-turn, range-done}
-use borrow.Author.Rules.{rules}
+use mathlib.Core.Path.{◌≡◌}
+use Prim.Native.Nat.{◌-◌, ◌/◌, ◌≤◌}
+use lib.ListN.{length}
+use Rattle.mask.specs.Mask.{mask_words}
+use Rattle.mask.proofs.Stores.{ranged}
 use Rattle.mask.proofs.inner.add_range.Given as goal
 
 abbrev pub invariant-loop-w : goal.invariant-loop-w

@@ -1,8 +1,7 @@
 -- `mask::inner::any_node` meets its contract. The invariant: no node below word w. Assumes nothing.
-use Prim.Native.Nat.{◌-◌, ◌*◌, ◌≤◌, ◌<◌}
+use Prim.Native.Nat.{◌<◌}
 use native.Mathlib.Omega.{arith}
 use lib.ListN.{length, get_or}
-use Rattle.base.proofs.Sets.{None}
 use Rattle.mask.specs.Mask.{in_mask}
 use Rattle.mask.proofs.Masks.{in-word, is-fits}
 use Rattle.word.proofs.Turns.{none-turn, some_turn}

@@ -1,12 +1,8 @@
 -- `mask::inner::any_node` meets its contract. The invariant: no node below word w. Assumes nothing.
-use Prim.Native.Nat.{◌-◌, ◌*◌, ◌≤◌, ◌<◌}
-use native.Mathlib.Omega.{arith}
-use lib.ListN.{length, get_or}
+use Prim.Native.Nat.{◌-◌, ◌*◌, ◌≤◌}
+use lib.ListN.{length}
 use Rattle.base.proofs.Sets.{None}
 use Rattle.mask.specs.Mask.{in_mask}
-use Rattle.mask.proofs.Masks.{in-word, is-fits}
-use Rattle.word.proofs.Turns.{none-turn, some_turn}
-use Rattle.mask.proofs.Passes.{any_found, any-over}
 use Rattle.mask.proofs.inner.any_node.Given as goal
 
 abbrev pub invariant-loop-w : goal.invariant-loop-w

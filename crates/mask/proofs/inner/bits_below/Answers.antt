@@ -1,7 +1,6 @@
 -- `mask::inner::bits_below` meets its contract. Assumes nothing.
 use Rattle.word.proofs.Answers.{shl-pos}
 use Rattle.mask.proofs.Stores.{below_none, below_all, below-some}
-use borrow.Author.Rules.{rules}
 use Rattle.mask.proofs.inner.bits_below.Goals as goal
 
 pub returns-then-bound-first : goal.returns-then-bound-first

@@ -2,7 +2,6 @@
 use borrow.Author.Tests.{eq-eqb, ne_eqb}
 use Rattle.base.proofs.Checks.{length-pass, length-stop}
 use Rattle.mask.specs.Mask.{length_check}
-use borrow.Author.Rules.{rules}
 use Rattle.mask.proofs.inner.check_length.Goals as goal
 
 pub returns-then-len-expected : goal.returns-then-len-expected

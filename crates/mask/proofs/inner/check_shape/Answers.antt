@@ -9,7 +9,6 @@ use Rattle.base.specs.declared.Checked.{Checked}
 use Rattle.base.proofs.Checks.{length-pass, length-stop, last-pass, last-stop}
 use Rattle.mask.specs.Mask.{words_needed, shape_check}
 use Rattle.mask.proofs.Shape.{clean-whole, clean-none, clean-some}
-use borrow.Author.Rules.{rules}
 use Rattle.mask.proofs.inner.check_shape.Goals as goal
 
 pub returns-then-words-need : goal.returns-then-words-need

@@ -1,11 +1,8 @@
 -- `mask::inner::clear` meets its contract. The invariant: the first w words are 0. Assumes nothing.
-use mathlib.Core.Path.{◌≡◌, refl, sym, ap, ◌∙◌}
+use mathlib.Core.Path.{◌≡◌}
 use Prim.Native.Nat.{ℕ, ◌-◌, ◌≤◌}
-use native.Mathlib.Omega.{arith}
-use lib.ListN.{length, get_or, replicate, length-replicate, get_or-replicate, length-set}
+use lib.ListN.{length, replicate}
 use Rattle.base.specs.Lists.{written}
-use Rattle.base.proofs.Lists.{put_next, put_whole}
-use Rattle.mask.proofs.Masks.{mask-none}
 use Rattle.mask.proofs.inner.clear.Given as goal
 
 abbrev pub invariant-loop-w : goal.invariant-loop-w

@@ -1,10 +1,9 @@
 -- `mask::inner::combine` meets its contract. The invariant: the first w words are those of the result. Assumes nothing.
 use mathlib.Core.Path.{◌≡◌, refl, sym, ap, ◌∙◌}
 use mathlib.Core.List.{List}
-use Prim.Native.Nat.{ℕ, ◌-◌, ◌≤◌, ◌<◌}
+use Prim.Native.Nat.{ℕ, ◌<◌}
 use native.Mathlib.Omega.{arith}
 use lib.ListN.{length, get_or, length-set}
-use Rattle.base.specs.Lists.{written}
 use Rattle.base.proofs.Lists.{put_next, put_whole, put-ahead}
 use Rattle.word.specs.Bits.{bit_at, word_from}
 use Rattle.word.specs.Answers.{on}
@@ -12,7 +11,6 @@ use Rattle.mask.specs.Mask.{in_mask}
 use Rattle.mask.specs.Answers.{combined}
 use Rattle.mask.proofs.Masks.{mask-length, is-length}
 use Rattle.mask.proofs.Passes.{op-turn}
-use borrow.Author.Rules.{rules}
 use Rattle.mask.proofs.inner.combine.Goals as goal
 
 pub loop-w-init : goal.loop-w-init

@@ -1,18 +1,10 @@
 -- `mask::inner::combine` meets its contract. The invariant: the first w words are those of the result. Assumes nothing.
-use mathlib.Core.Path.{◌≡◌, refl, sym, ap, ◌∙◌}
-use mathlib.Core.List.{List}
-use Prim.Native.Nat.{ℕ, ◌-◌, ◌≤◌, ◌<◌}
-use native.Mathlib.Omega.{arith}
-use lib.ListN.{length, get_or, length-set}
+use mathlib.Core.Path.{◌≡◌}
+use Prim.Native.Nat.{◌-◌, ◌≤◌}
+use lib.ListN.{length}
 use Rattle.base.specs.Lists.{written}
-use Rattle.base.proofs.Lists.{put_next, put_whole, put-ahead}
-use Rattle.word.specs.Bits.{bit_at, word_from}
 use Rattle.word.specs.Answers.{on}
-use Rattle.mask.specs.Mask.{in_mask}
 use Rattle.mask.specs.Answers.{combined}
-use Rattle.mask.proofs.Masks.{mask-length, is-length}
-use Rattle.mask.proofs.Passes.{op-turn}
-use borrow.Author.Rules.{rules}
 use Rattle.mask.proofs.inner.combine.Given as goal
 
 abbrev pub invariant-loop-w : goal.invariant-loop-w

@@ -1,12 +1,9 @@
 -- `mask::inner::copy` meets its contract. The invariant: the words before w are copied. Assumes nothing.
-use mathlib.Core.Path.{◌≡◌, refl, sym, ◌∙◌}
-use Prim.Native.Nat.{◌-◌, ◌≤◌}
+use mathlib.Core.Path.{refl, sym, ◌∙◌}
 use native.Mathlib.Omega.{arith}
-use lib.ListN.{length, get_or, length-set}
-use Rattle.base.specs.Lists.{written}
+use lib.ListN.{get_or, length-set}
 use Rattle.base.proofs.Lists.{put_next, put_whole}
 use Rattle.mask.proofs.Masks.{is-length}
-use borrow.Author.Rules.{rules}
 use Rattle.mask.proofs.inner.copy.Goals as goal
 
 pub loop-w-init : goal.loop-w-init

@@ -1,10 +1,9 @@
 -- `mask::inner::count` meets its contract. The invariant: the total is the count below word w. Assumes nothing.
-use mathlib.Core.Path.{◌≡◌, sym, ap, ◌∙◌}
-use Prim.Native.Nat.{ℕ, ◌+◌, ◌-◌, ◌*◌, ◌^◌, ◌≤◌, ◌<◌}
+use mathlib.Core.Path.{sym, ap, ◌∙◌}
+use Prim.Native.Nat.{ℕ, ◌+◌, ◌*◌, ◌^◌, ◌<◌}
 use native.Mathlib.Omega.{arith}
 use lib.Count.{ones, ones-le}
-use lib.ListN.{length, get_or}
-use Rattle.base.specs.Sets.{count_below}
+use lib.ListN.{get_or}
 use Rattle.base.proofs.Sets.{sum-zero, count-le}
 use Rattle.mask.specs.Mask.{in_mask}
 use Rattle.mask.proofs.Masks.{in-word, is-length, is-fits}

@@ -2,7 +2,6 @@
 use native.Mathlib.Omega.{arith}
 use Rattle.mask.proofs.Masks.{is-length}
 use Rattle.mask.proofs.Stores.{bit-read}
-use borrow.Author.Rules.{rules}
 use Rattle.mask.proofs.inner.holds.Goals as goal
 
 pub bounds-words-index : goal.bounds-words-index

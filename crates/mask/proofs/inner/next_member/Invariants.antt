@@ -1,14 +1,7 @@
 -- `mask::inner::next_member` meets its contract. The invariant: no member from `from` up to word w. Assumes nothing.
-use mathlib.Core.Path.{◌≡◌}
-use Prim.Native.Nat.{◌-◌, ◌*◌, ◌/◌, ◌%◌, ◌^◌, ◌≤◌, ◌<◌}
-use native.Mathlib.Omega.{arith}
-use lib.Count.{trailing_le}
-use lib.ListN.{length, get_or}
-use Rattle.mask.specs.Mask.{in_mask}
-use Rattle.mask.proofs.Masks.{is-length}
-use Rattle.mask.proofs.Nexts.{NoMember, none_ahead, next_split, next_later, next_over, next_none}
-use Rattle.base.proofs.Sets.{none_from}
-use borrow.Author.Rules.{rules}
+use Prim.Native.Nat.{◌-◌, ◌*◌, ◌≤◌}
+use lib.ListN.{length}
+use Rattle.mask.proofs.Nexts.{NoMember}
 use Rattle.mask.proofs.inner.next_member.Given as goal
 
 abbrev pub invariant-loop-w : goal.invariant-loop-w

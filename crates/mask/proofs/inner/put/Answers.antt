@@ -4,7 +4,6 @@ use native.Mathlib.Omega.{arith}
 use Rattle.mask.specs.Answers.{with_node}
 use Rattle.mask.proofs.Masks.{is-length}
 use Rattle.mask.proofs.Stores.{put_in, put-out}
-use borrow.Author.Rules.{rules}
 use Rattle.mask.proofs.inner.put.Goals as goal
 
 pub bounds-words-w : goal.bounds-words-w

@@ -1,14 +1,14 @@
 -- `mask::inner::write_members` meets its contract. Members still to come: those of the word's bits that are left, then those of later words. Assumes nothing.
 use mathlib.Core.Path.{◌≡◌, refl, sym, ap, ◌∙◌}
 use mathlib.Core.List.{List, [], map, ◌++◌}
-use Prim.Native.Nat.{ℕ, ◌+◌, ◌-◌, ◌*◌, ◌^◌, ◌≤◌, ◌<◌}
+use Prim.Native.Nat.{ℕ, ◌+◌, ◌-◌, ◌*◌, ◌≤◌, ◌<◌}
 use native.Mathlib.Omega.{arith}
 use native.Mathlib.Nat.{lt_of_le_of_lt}
 use lib.Bits.{bit_and, and_le_l}
 use lib.Count.{count_trailing_zeros, trailing_le}
 use lib.ListN.{length, get_or, drop, length-set, length-drop}
 use Rattle.base.specs.Lists.{written}
-use Rattle.base.specs.Sets.{members_from, members_below}
+use Rattle.base.specs.Sets.{members_from}
 use Rattle.base.proofs.Lists.{put_next, put-put, put-end}
 use Rattle.base.proofs.Sets.{members-zero, count-members}
 use Rattle.word.specs.Bits.{set_bits}

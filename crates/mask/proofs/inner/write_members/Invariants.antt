@@ -1,21 +1,13 @@
 -- `mask::inner::write_members` meets its contract. Members still to come: those of the word's bits that are left, then those of later words. Assumes nothing.
-use mathlib.Core.Path.{◌≡◌, refl, sym, ap, ◌∙◌}
-use mathlib.Core.List.{List, [], map, ◌++◌}
+use mathlib.Core.Path.{◌≡◌}
+use mathlib.Core.List.{List, map, ◌++◌}
 use Prim.Native.Nat.{ℕ, ◌+◌, ◌-◌, ◌*◌, ◌^◌, ◌≤◌, ◌<◌}
-use native.Mathlib.Omega.{arith}
-use native.Mathlib.Nat.{lt_of_le_of_lt}
-use lib.Bits.{bit_and, and_le_l}
-use lib.Count.{count_trailing_zeros, trailing_le}
-use lib.ListN.{length, get_or, drop, length-set, length-drop}
+use lib.ListN.{length, drop}
 use Rattle.base.specs.Lists.{written}
-use Rattle.base.specs.Sets.{members_from, members_below}
-use Rattle.base.proofs.Lists.{put_next, put-put, put-end}
-use Rattle.base.proofs.Sets.{members-zero, count-members}
+use Rattle.base.specs.Sets.{members_below}
 use Rattle.word.specs.Bits.{set_bits}
-use Rattle.word.proofs.Bits.{clear-less}
 use Rattle.mask.specs.Mask.{in_mask}
-use Rattle.mask.proofs.Masks.{is-length, is-fits}
-use Rattle.mask.proofs.Passes.{ahead, open-word, member-turn, word-done, members-all}
+use Rattle.mask.proofs.Passes.{ahead}
 use Rattle.mask.proofs.inner.write_members.Given as goal
 
 -- the list that is written

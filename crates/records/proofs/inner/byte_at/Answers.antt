@@ -1,7 +1,6 @@
 -- `records::inner::byte_at` meets its contract. Assumes nothing.
 use mathlib.Core.Path.{refl}
 use native.Mathlib.Omega.{arith}
-use borrow.Author.Rules.{rules}
 use Rattle.records.proofs.inner.byte_at.Goals as goal
 
 pub overflow_cast-result : goal.overflow_cast-result
@@ -9,6 +8,6 @@ overflow_cast-result c = omega (arith, c.type_inv.call c.args.at)
 
 pub returns : goal.returns
 returns c = record {
-      value = refl;
-      upper_bound = omega (arith, c.type_inv.call c.args.at);
-    }
+  value = refl;
+  upper_bound = omega (arith, c.type_inv.call c.args.at);
+}

@@ -4,7 +4,6 @@ use mathlib.Core.Bool.{Bool, cond}
 use native.Mathlib.Omega.{arith}
 use borrow.Author.Tests.{lt-ltb, le-ltb}
 use Rattle.records.specs.Bytes.{number_at}
-use borrow.Author.Rules.{rules}
 use Rattle.records.proofs.inner.count_at.Goals as goal
 
 pub returns-then-n-lt16 : goal.returns-then-n-lt16

@@ -1,14 +1,13 @@
 -- `records::inner::put_list` meets its contract. The invariant: the bytes of the first k numbers are put. Assumes nothing.
 use mathlib.Core.Path.{◌≡◌, refl, sym, ap, ap₂, ◌∙◌}
 use mathlib.Core.List.{List, [], ◌∷◌}
-use Prim.Native.Nat.{ℕ, ◌+◌, ◌-◌, ◌*◌, ◌≤◌}
+use Prim.Native.Nat.{ℕ, ◌+◌, ◌*◌}
 use native.Mathlib.Omega.{arith}
 use lib.ListN.{length, get_or}
 use Rattle.base.specs.Lists.{placed}
 use Rattle.base.proofs.Lists.{placed-none, placed-more}
 use Rattle.records.specs.Bytes.{bytes_of}
 use Rattle.records.proofs.Bytes.{bytes-length, bytes-none, number-next}
-use borrow.Author.Rules.{rules}
 use Rattle.records.proofs.inner.put_list.Goals as goal
 
 pub loop-k-init : goal.loop-k-init

@@ -1,14 +1,13 @@
 -- `records::inner::put_number` meets its contract. The invariant: the first k bytes are put. Assumes nothing.
 use mathlib.Core.Path.{◌≡◌, refl, sym, ap, ap₂, ◌∙◌}
 use mathlib.Core.List.{List, [], ◌∷◌}
-use Prim.Native.Nat.{ℕ, ◌+◌, ◌-◌, ◌/◌, ◌%◌, ◌≤◌}
+use Prim.Native.Nat.{ℕ, ◌+◌, ◌/◌, ◌%◌}
 use native.Mathlib.Omega.{arith}
 use lib.ListN.{length, set, length-set}
 use Rattle.base.specs.Lists.{placed}
 use Rattle.base.proofs.Lists.{placed-none, placed-next}
-use Rattle.records.specs.Bytes.{shifted, bytes_of}
+use Rattle.records.specs.Bytes.{bytes_of}
 use Rattle.records.proofs.Bytes.{bytes-length, bytes-none, byte_next, shift-next, shift_none}
-use borrow.Author.Rules.{rules}
 use Rattle.records.proofs.inner.put_number.Goals as goal
 
 pub loop-k-init : goal.loop-k-init

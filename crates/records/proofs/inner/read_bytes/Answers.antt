@@ -1,13 +1,11 @@
 -- `records::inner::read_bytes` meets its contract. The invariant: the first k numbers are written. Assumes nothing.
 use mathlib.Core.Path.{◌≡◌, refl, sym, ap, ◌∙◌}
-use Prim.Native.Nat.{ℕ, ◌+◌, ◌-◌, ◌*◌, ◌%◌, ◌≤◌}
+use Prim.Native.Nat.{ℕ, ◌+◌, ◌*◌, ◌%◌}
 use native.Mathlib.Omega.{arith}
 use native.Mathlib.Nat.{zero-add}
 use lib.ListN.{length, get_or, length-set}
-use Rattle.base.specs.Lists.{written}
 use Rattle.base.proofs.Lists.{put_next, put_whole, length-list_from, get_or-list_from}
 use Rattle.records.specs.Bytes.{number_at, list_found_at}
-use borrow.Author.Rules.{rules}
 use Rattle.records.proofs.inner.read_bytes.Goals as goal
 
 pub loop-k-init : goal.loop-k-init

@@ -1,13 +1,9 @@
 -- `records::inner::read_narrow` meets its contract. The invariant: the first k numbers are written. Assumes nothing.
-use mathlib.Core.Path.{◌≡◌, refl, sym, ap, ◌∙◌}
-use Prim.Native.Nat.{ℕ, ◌+◌, ◌-◌, ◌*◌, ◌%◌, ◌<◌, ◌≤◌}
-use native.Mathlib.Omega.{arith}
-use native.Mathlib.Nat.{zero-add}
-use lib.ListN.{length, get_or, length-set}
+use mathlib.Core.Path.{◌≡◌}
+use Prim.Native.Nat.{◌-◌, ◌≤◌}
+use lib.ListN.{length}
 use Rattle.base.specs.Lists.{written}
-use Rattle.base.proofs.Lists.{put_next, put_whole, length-list_from, get_or-list_from}
-use Rattle.records.specs.Bytes.{number_at, narrow_at}
-use borrow.Author.Rules.{rules}
+use Rattle.records.specs.Bytes.{narrow_at}
 use Rattle.records.proofs.inner.read_narrow.Given as goal
 
 abbrev pub invariant-loop-k : goal.invariant-loop-k

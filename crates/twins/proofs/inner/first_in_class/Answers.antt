@@ -1,5 +1,4 @@
 -- `twins::inner::first_in_class` meets its contract. Assumes nothing.
-use borrow.Author.Rules.{rules}
 use Rattle.twins.proofs.Tables.{none-met}
 use Rattle.twins.proofs.inner.first_in_class.Goals as goal
 

@@ -1,9 +1,6 @@
 -- `twins::inner::first_twin` meets its contract. The invariant: no block before `twin` that is of an earlier class repeats a key. Assumes nothing.
-use mathlib.Core.Path.{◌≡◌, sym}
-use Prim.Native.Nat.{ℕ, ◌+◌, ◌-◌, ◌≤◌, ◌<◌}
+use mathlib.Core.Path.{sym}
 use native.Mathlib.Omega.{arith}
-use borrow.Author.Rules.{rules}
-use Rattle.twins.specs.Keys.{Twin}
 use Rattle.twins.proofs.Tables.{twin-next, twin-first}
 use Rattle.twins.proofs.inner.first_twin.Goals as goal
 

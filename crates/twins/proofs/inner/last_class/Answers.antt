@@ -1,7 +1,5 @@
 -- `twins::inner::last_class` meets its contract. Assumes nothing.
-use Prim.Native.Nat.{◌-◌, ◌≤◌}
 use native.Mathlib.Omega.{arith}
-use borrow.Author.Rules.{rules}
 use Rattle.twins.proofs.inner.last_class.Goals as goal
 
 pub loop-last-init : goal.loop-last-init

@@ -2,7 +2,6 @@
 use mathlib.Core.Path.{◌∙◌}
 use Rattle.twins.specs.Keys.{above_key}
 use Rattle.twins.proofs.Orders.{or-differ, or-equal}
-use borrow.Author.Rules.{rules}
 use Rattle.twins.proofs.keys.above_by_field.Goals as goal
 
 pub returns-then-fields-a : goal.returns-then-fields-a

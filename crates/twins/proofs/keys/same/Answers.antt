@@ -1,6 +1,5 @@
 -- `twins::keys::same` meets its contract. Assumes nothing.
 use Rattle.twins.proofs.Orders.{differ-id, differ-field, kind-decides}
-use borrow.Author.Rules.{rules}
 use Rattle.twins.proofs.keys.same.Goals as goal
 
 pub returns-then-ids-a : goal.returns-then-ids-a

@@ -1,15 +1,11 @@
 -- `twins::table::first_met` meets its contract. Assumes nothing.
 use mathlib.Core.Path.{◌≡◌, refl, sym, ◌∙◌}
-use mathlib.Core.Bool.{Bool, true, false}
-use mathlib.Core.List.{List}
-use Prim.Native.Nat.{ℕ, ◌+◌, ◌-◌, ◌≤◌, ◌<◌}
+use mathlib.Core.Bool.{false}
 use native.Mathlib.Omega.{arith}
 use lib.Dec.{eqb}
-use lib.ListN.{length}
-use borrow.Author.Rules.{rules}
 use Rattle.base.proofs.Bools.{and_right}
 use Rattle.base.proofs.Sets.{below_next}
-use Rattle.twins.specs.Keys.{repeated, class_at, Table}
+use Rattle.twins.specs.Keys.{repeated, class_at}
 use Rattle.twins.proofs.Tables.{not-met}
 use Rattle.twins.proofs.table.first_met.Goals as goal
 

@@ -1,16 +1,10 @@
 -- `twins::table::first_met` meets its contract. Assumes nothing.
-use mathlib.Core.Path.{◌≡◌, refl, sym, ◌∙◌}
-use mathlib.Core.Bool.{Bool, true, false}
+use mathlib.Core.Path.{◌≡◌}
+use mathlib.Core.Bool.{false}
 use mathlib.Core.List.{List}
-use Prim.Native.Nat.{ℕ, ◌+◌, ◌-◌, ◌≤◌, ◌<◌}
-use native.Mathlib.Omega.{arith}
-use lib.Dec.{eqb}
+use Prim.Native.Nat.{ℕ, ◌-◌, ◌≤◌, ◌<◌}
 use lib.ListN.{length}
-use borrow.Author.Rules.{rules}
-use Rattle.base.proofs.Bools.{and_right}
-use Rattle.base.proofs.Sets.{below_next}
 use Rattle.twins.specs.Keys.{repeated, class_at, Table}
-use Rattle.twins.proofs.Tables.{not-met}
 use Rattle.twins.proofs.table.first_met.Given as goal
 
 -- the table of the blocks before b, none of which repeats a key

@@ -1,16 +1,14 @@
 -- `twins::table::meets` meets its contract. The invariant: the slots from the block's home on are taken, by other keys. Assumes nothing.
-use mathlib.Core.Path.{◌≡◌, refl, sym, ap, ◌∙◌, subst}
+use mathlib.Core.Path.{◌≡◌, refl, sym, ap, ◌∙◌}
 use mathlib.Core.Bool.{true, false}
-use mathlib.Core.List.{List}
-use Prim.Native.Nat.{ℕ, ◌+◌, ◌-◌, ◌/◌, ◌^◌, ◌≤◌, ◌<◌}
+use Prim.Native.Nat.{ℕ, ◌+◌, ◌-◌, ◌/◌, ◌^◌, ◌<◌}
 use native.Mathlib.Omega.{arith}
 use lib.Bits.{bit_and}
-use lib.ListN.{length, get_or, length-set}
-use borrow.Author.Rules.{rules}
+use lib.ListN.{get_or, length-set}
 use Rattle.base.proofs.Bools.{T_of, T_true}
 use Rattle.base.proofs.Sets.{any-i}
-use Rattle.twins.specs.Keys.{same_key, home_at, class_at, Table}
-use Rattle.twins.proofs.Tables.{Walked, walk_next, no-class, in-class, fresh, kept-other, kept_full, taken_in}
+use Rattle.twins.specs.Keys.{same_key, home_at, class_at}
+use Rattle.twins.proofs.Tables.{walk_next, no-class, in-class, fresh, kept-other, kept_full, taken_in}
 use Rattle.twins.proofs.table.meets.Goals as goal
 
 pub offset_bounds-ids-b : goal.offset_bounds-ids-b

@@ -1,16 +1,10 @@
 -- `twins::table::meets` meets its contract. The invariant: the slots from the block's home on are taken, by other keys. Assumes nothing.
-use mathlib.Core.Path.{◌≡◌, refl, sym, ap, ◌∙◌, subst}
-use mathlib.Core.Bool.{true, false}
+use mathlib.Core.Path.{◌≡◌}
 use mathlib.Core.List.{List}
-use Prim.Native.Nat.{ℕ, ◌+◌, ◌-◌, ◌/◌, ◌^◌, ◌≤◌, ◌<◌}
-use native.Mathlib.Omega.{arith}
-use lib.Bits.{bit_and}
-use lib.ListN.{length, get_or, length-set}
-use borrow.Author.Rules.{rules}
-use Rattle.base.proofs.Bools.{T_of, T_true}
-use Rattle.base.proofs.Sets.{any-i}
-use Rattle.twins.specs.Keys.{same_key, home_at, class_at, Table}
-use Rattle.twins.proofs.Tables.{Walked, walk_next, no-class, in-class, fresh, kept-other, kept_full, taken_in}
+use Prim.Native.Nat.{ℕ, ◌-◌}
+use lib.ListN.{length}
+use Rattle.twins.specs.Keys.{Table}
+use Rattle.twins.proofs.Tables.{Walked}
 use Rattle.twins.proofs.table.meets.Given as goal
 
 -- where it stands and what is known of the table

@@ -3,7 +3,6 @@ use mathlib.Core.Path.{refl}
 use Prim.Native.Nat.{ℕ, ◌*◌, ◌/◌, ◌^◌, ◌<◌}
 use native.Mathlib.Omega.{arith}
 use lib.Bits.{bit_and, bit_xor, and_le_r}
-use borrow.Author.Rules.{rules}
 use Rattle.twins.specs.Keys.{mixed, spread_of}
 use Rattle.twins.proofs.table.spread.Goals as goal
 

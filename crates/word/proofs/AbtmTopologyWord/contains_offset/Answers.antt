@@ -1,5 +1,4 @@
 -- `word::AbtmTopologyWord::contains_offset` meets its contract. Assumes nothing.
-use borrow.Author.Rules.{rules}
 use Rattle.word.proofs.Answers.{contains-in, contains-past}
 use Rattle.word.proofs.AbtmTopologyWord.contains_offset.Goals as goal
 

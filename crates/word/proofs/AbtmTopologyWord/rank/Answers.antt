@@ -1,6 +1,6 @@
 -- `word::AbtmTopologyWord::rank` meets its contract. Assumes nothing.
 use borrow.Author.Rules.{rules}
-use Rattle.word.proofs.Answers.{rank-out, rank-all, rank-in, rank-fits, shl-pos}
+use Rattle.word.proofs.Answers.{rank-out, rank-all, rank-in, shl-pos}
 use Rattle.word.proofs.AbtmTopologyWord.rank.Goals as goal
 
 pub returns-then-offset-gt-BITS : goal.returns-then-offset-gt-BITS
@@ -11,9 +11,6 @@ returns-then-offset-eq-BITS c = rank-all _ _ _ c.if-offset-eq-BITS.true c.popcou
 
 pub overflow_sub-below : goal.overflow_sub-below
 overflow_sub-below c = shl-pos _ (search rules)
-
-pub overflow_cast-count : goal.overflow_cast-count
-overflow_cast-count c = rank-fits c.args.self.mask _ (search rules)
 
 pub returns : goal.returns
 returns c = rank-in _ c.args.offset (search rules)

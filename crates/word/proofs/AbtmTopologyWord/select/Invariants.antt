@@ -1,15 +1,8 @@
 -- `word::AbtmTopologyWord::select` meets its contract. Assumes nothing.
-use Prim.Native.Nat.{ℕ, ◌≤◌, ◌<◌, ◌-◌, ◌^◌}
-use mathlib.Core.Path.{◌≡◌, refl}
-use native.Mathlib.Nat.{lt_of_le_of_lt}
-use lib.Bits.{and_le_l}
-use native.Mathlib.Omega.{arith}
-use borrow.Author.Rules.{rules}
-use lib.Count.{trailing_le}
-use lib.ListN.{drop, length}
-use Rattle.base.proofs.Sets.{count-members}
-use Rattle.word.specs.Bits.{bit_at, set_bits}
-use Rattle.word.proofs.Answers.{bits_left, select-turn, select-none, select-at}
+use Prim.Native.Nat.{◌≤◌, ◌<◌, ◌-◌, ◌^◌}
+use mathlib.Core.Path.{◌≡◌}
+use lib.ListN.{drop}
+use Rattle.word.specs.Bits.{set_bits}
 use Rattle.word.proofs.AbtmTopologyWord.select.Given as goal
 
 abbrev pub invariant-loop-k : goal.invariant-loop-k
