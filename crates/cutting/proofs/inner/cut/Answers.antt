@@ -45,7 +45,7 @@ module _ (c : After-words_for-need) where
   own = ap (take c.words_for-need.result) c.grow-growth.ensures.inside ∙ over-own _ _ _ (region-length grown t.args.seeds.now t.args.hops ∙ sym (c.words_for-need.ensures ∙ ap words_needed t.requires.inputs.side))
 
   same : take c.words_for-need.result lent ≡ region_words (network_of t.args.row_ptr.now t.args.col_idx.now t.args.components.now) t.args.seeds.now t.args.hops
-  same = own ∙ ap (λ (p : ℕ → ℕ → Bool). region_words (field_network t.args.components.now p) t.args.seeds.now t.args.hops) t.requires.1.0.1
+  same = own ∙ ap (λ (p : ℕ → ℕ → Bool). region_words (field_network t.args.components.now p) t.args.seeds.now t.args.hops) t.requires.topology.1
 
 pub grow-growth-requires : goal.grow-growth-requires
 grow-growth-requires c =
