@@ -1,5 +1,5 @@
 //! Links libhybit_matrix.a. HYBIT_MATRIX_ARCHIVE names one that is built; without it the archive is built here, by
-//! `rt staticlib hybit_matrix` in the project's top folder, which proves it first.
+//! tools/staticlib in the project's top folder, which proves it first.
 
 use std::env;
 use std::fs;
@@ -27,36 +27,40 @@ fn main() {
     }
 }
 
-/// The archive, proved and built by the toolchain: first what the library is made of, several crates at a time, then the
-/// library itself.
+/// The archive, proved and built by the toolchain.
 fn built() -> PathBuf {
     let package = env::var_os("CARGO_MANIFEST_DIR").expect("cargo names the package");
     let top = Path::new(&package).join("../..");
-    println!("cargo::rerun-if-changed={}", top.join("crates").display());
-    let list = fs::read_to_string(top.join("crates.txt")).unwrap_or_default();
-    let parts = list
-        .lines()
-        .find_map(|line| line.strip_prefix("hybit_matrix:"))
-        .unwrap_or_default();
-    if rt(&top, "check", parts.split_whitespace()) {
-        rt(&top, "staticlib", ["hybit_matrix"]);
+    watch(&top);
+    let command = "tools/staticlib hybit_matrix";
+    match Command::new(top.join("tools/staticlib"))
+        .arg("hybit_matrix")
+        .status()
+    {
+        Ok(status) if status.success() => {}
+        Ok(status) => println!("cargo::error={command}: {status}"),
+        Err(error) => println!(
+            "cargo::error={command}: {error}; HYBIT_MATRIX_ARCHIVE can name a built archive"
+        ),
     }
     top.join("target/staticlib/libhybit_matrix.a")
 }
 
-/// Whether the toolchain's command ended well; if not, the build fails and says so.
-fn rt<'a>(top: &Path, command: &str, crates: impl IntoIterator<Item = &'a str>) -> bool {
-    match Command::new("rt")
-        .arg(command)
-        .args(crates)
-        .current_dir(top)
-        .status()
-    {
-        Ok(status) if status.success() => return true,
-        Ok(status) => println!("cargo::error=rt {command}: {status}"),
-        Err(error) => println!(
-            "cargo::error=rt {command}: {error}; HYBIT_MATRIX_ARCHIVE can name a built archive"
-        ),
+/// The sources of the crates, without what the toolchain writes beside them.
+fn watch(top: &Path) {
+    println!(
+        "cargo::rerun-if-changed={}",
+        top.join("crates.txt").display()
+    );
+    let Ok(crates) = fs::read_dir(top.join("crates")) else {
+        return;
+    };
+    for package in crates.flatten() {
+        for part in ["src", "specs", "proofs"] {
+            let folder = package.path().join(part);
+            if folder.is_dir() {
+                println!("cargo::rerun-if-changed={}", folder.display());
+            }
+        }
     }
-    false
 }

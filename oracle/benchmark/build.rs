@@ -13,7 +13,7 @@ fn main() {
     println!("cargo::rerun-if-changed={}", archive.display());
     if !archive.exists() {
         println!(
-            "cargo::error={} is missing: build it (rt staticlib repeated), or set RATTLE_LIBS",
+            "cargo::error={} is missing: build it (tools/staticlib repeated), or set RATTLE_LIBS",
             archive.display()
         );
     }

@@ -1,3 +1,4 @@
 // Whether one side holds exactly the pairs of another, turned round.
 #![tactic(auto)]
+
 pub mod inner;

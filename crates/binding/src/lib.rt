@@ -1,6 +1,7 @@
 // Whether the pairs of a topology and the entries of a matrix bind inside a region: refusals 23 and 24 of a numeric plan, by local row. It holds
 // no public call.
 #![tactic(auto)]
+
 use base::Refusal;
 
 pub mod inner;

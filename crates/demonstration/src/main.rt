@@ -1,139 +1,175 @@
 // Prints document 01's own examples of words, matrices, masks, layouts, topologies and regions, as the port answers them, and one list of growths.
 #![tactic(auto)]
+
 use base::Counted;
 use claims::RunAnswer;
 use hybit_matrix::Answer;
-use libc::STDOUT_FILENO;
+use std::io;
 
-fn show(what: &[u8], a: Answer) {
-    io::write_all(STDOUT_FILENO, what);
-    if a.number != 0 {
-        io::write_all(STDOUT_FILENO, b": refused ");
-        io::print_decimal(STDOUT_FILENO, a.number as u64);
-        if a.number == 11 {
-            io::write_all(STDOUT_FILENO, b", expected ");
-            io::print_decimal(STDOUT_FILENO, a.expected);
-            io::write_all(STDOUT_FILENO, b", actual ");
-            io::print_decimal(STDOUT_FILENO, a.actual);
-        }
+fn show(rt: &impl Print, what: &str, a: Answer) -> io::Result<()> {
+    if a.number == 11 {
+        println!(rt;
+            "{what}: refused 11, expected {}, actual {}",
+            a.expected, a.actual
+        )
+    } else if a.number != 0 {
+        println!(rt; "{what}: refused {}", a.number)
     } else if a.present {
-        io::write_all(STDOUT_FILENO, b": ");
-        io::print_decimal(STDOUT_FILENO, a.value);
+        println!(rt; "{what}: {}", a.value)
     } else {
-        io::write_all(STDOUT_FILENO, b": none");
+        println!(rt; "{what}: none")
     }
-    io::write_all(STDOUT_FILENO, b"\n");
 }
 
 // The same of a call that answers acceptance only.
-fn show_check(what: &[u8], a: Answer) {
+fn show_check(rt: &impl Print, what: &str, a: Answer) -> io::Result<()> {
     if a.number == 0 {
-        io::write_all(STDOUT_FILENO, what);
-        io::write_all(STDOUT_FILENO, b": accepted\n");
+        println!(rt; "{what}: accepted")
     } else {
-        show(what, a);
+        show(rt, what, a)
     }
 }
 
-fn words() {
-    show(b"word 22, rank 2", hybit_matrix::hybit_word_rank(0, 22, 2));
+fn words(rt: &impl Print) -> io::Result<()> {
     show(
-        b"word 22, rank 64",
+        rt,
+        "word 22, rank 2",
+        hybit_matrix::hybit_word_rank(0, 22, 2),
+    )?;
+    show(
+        rt,
+        "word 22, rank 64",
         hybit_matrix::hybit_word_rank(0, 22, 64),
-    );
+    )?;
     show(
-        b"word 22, rank 65",
+        rt,
+        "word 22, rank 65",
         hybit_matrix::hybit_word_rank(0, 22, 65),
-    );
+    )?;
     show(
-        b"word 22, select 2",
+        rt,
+        "word 22, select 2",
         hybit_matrix::hybit_word_select(0, 22, 2),
-    );
+    )?;
     show(
-        b"word 22, select 3",
+        rt,
+        "word 22, select 3",
         hybit_matrix::hybit_word_select(0, 22, 3),
-    );
+    )
 }
 
-fn matrix(what: &[u8], nrows: usize, row_ptr: &[u32], col_idx: &[u32], values: &[f64]) {
+fn matrix(
+    rt: &impl Print,
+    what: &str,
+    nrows: usize,
+    row_ptr: &[u32],
+    col_idx: &[u32],
+    values: &[f64],
+) -> io::Result<()> {
     show_check(
+        rt,
         what,
         hybit_matrix::hybit_csr32_validate(nrows, 3, row_ptr, col_idx, values),
-    );
+    )
 }
 
-fn matrices() {
+fn matrices(rt: &impl Print) -> io::Result<()> {
     matrix(
-        b"matrix with entries (0,1), (1,2)",
+        rt,
+        "matrix with entries (0,1), (1,2)",
         3,
         &[0, 1, 2, 2],
         &[1, 2],
         &[1.0, 1.0],
-    );
-    matrix(b"nrows 1,048,577", 1048577, &[0], &[], &[]);
-    matrix(b"nrows 2, row_ptr 0,1", 2, &[0, 1], &[0], &[1.0]);
-    matrix(b"cols 0, no values", 1, &[0, 1], &[0], &[]);
-    matrix(b"row_ptr 1,1", 1, &[1, 1], &[0], &[1.0]);
-    matrix(b"row_ptr 0,2 with one entry", 1, &[0, 2], &[0], &[1.0]);
-    matrix(b"row_ptr 0,2,1 with one entry", 2, &[0, 2, 1], &[0], &[1.0]);
-    matrix(b"column 3 of 3", 1, &[0, 1], &[3], &[1.0]);
-    matrix(b"value infinity", 1, &[0, 1], &[0], &[1.0 / 0.0]);
+    )?;
+    matrix(rt, "nrows 1,048,577", 1048577, &[0], &[], &[])?;
+    matrix(rt, "nrows 2, row_ptr 0,1", 2, &[0, 1], &[0], &[1.0])?;
+    matrix(rt, "cols 0, no values", 1, &[0, 1], &[0], &[])?;
+    matrix(rt, "row_ptr 1,1", 1, &[1, 1], &[0], &[1.0])?;
+    matrix(rt, "row_ptr 0,2 with one entry", 1, &[0, 2], &[0], &[1.0])?;
+    matrix(
+        rt,
+        "row_ptr 0,2,1 with one entry",
+        2,
+        &[0, 2, 1],
+        &[0],
+        &[1.0],
+    )?;
+    matrix(rt, "column 3 of 3", 1, &[0, 1], &[3], &[1.0])?;
+    matrix(rt, "value infinity", 1, &[0, 1], &[0], &[1.0 / 0.0])
 }
 
-fn masks() {
+fn masks(rt: &impl Print) -> io::Result<()> {
     let mut words = [0u64; 2];
     show_check(
-        b"mask of 65 nodes from 3, 64",
+        rt,
+        "mask of 65 nodes from 3, 64",
         hybit_matrix::hybit_mask_from_indices(65, &[3, 64], &mut words),
-    );
+    )?;
     show(
-        b"its count",
+        rt,
+        "its count",
         hybit_matrix::hybit_mask_count_ones(65, &words),
-    );
+    )?;
     show(
-        b"it holds 64",
+        rt,
+        "it holds 64",
         hybit_matrix::hybit_mask_contains(65, &words, 64),
-    );
+    )?;
     show(
-        b"it holds 65",
+        rt,
+        "it holds 65",
         hybit_matrix::hybit_mask_contains(65, &words, 65),
-    );
+    )?;
     show(
-        b"mask 4, side 3",
+        rt,
+        "mask 4, side 3",
         hybit_matrix::hybit_mask_intersects(3, &[1], 4, &[1]),
-    );
+    )?;
     show_check(
-        b"length 65, second word 2",
+        rt,
+        "length 65, second word 2",
         hybit_matrix::hybit_mask_check(65, &[0, 2]),
-    );
+    )?;
     let mut three = [0u64; 1];
     show_check(
-        b"set bit 3 of 3",
+        rt,
+        "set bit 3 of 3",
         hybit_matrix::hybit_mask_set(3, &mut three, 3, true),
-    );
+    )?;
     show_check(
-        b"output of one word, 65 nodes",
+        rt,
+        "output of one word, 65 nodes",
         hybit_matrix::hybit_mask_new(65, &mut three),
-    );
+    )
 }
 
 // Blocks of one field, built.
-fn built(what: &[u8], kinds: &[u8], ids: &[u64], fields: &[u32], components: &[u32]) {
+fn built(
+    rt: &impl Print,
+    what: &str,
+    kinds: &[u8],
+    ids: &[u64],
+    fields: &[u32],
+    components: &[u32],
+) -> io::Result<()> {
     let mut offsets = [0u64; 3];
     show(
+        rt,
         what,
         hybit_matrix::layout::hybit_layout_new(kinds, ids, fields, components, &mut offsets),
-    );
+    )
 }
 
-fn layouts() {
+fn layouts(rt: &impl Print) -> io::Result<()> {
     built(
-        b"blocks of 2 and 1, their total",
+        rt,
+        "blocks of 2 and 1, their total",
         &[1, 1],
         &[0, 1],
         &[0, 0],
         &[2, 1],
-    );
+    )?;
     let place = hybit_matrix::layout::hybit_layout_locate(
         &[1, 1],
         &[0, 1],
@@ -142,20 +178,20 @@ fn layouts() {
         &[0, 2, 3],
         2,
     );
-    io::write_all(STDOUT_FILENO, b"node 2 of them: block ");
-    io::print_decimal(STDOUT_FILENO, place.first);
-    io::write_all(STDOUT_FILENO, b", component ");
-    io::print_decimal(STDOUT_FILENO, place.second);
-    io::write_all(STDOUT_FILENO, b"\n");
+    println!(rt;
+        "node 2 of them: block {}, component {}",
+        place.first, place.second
+    )
 }
 
-fn refused_layouts() {
-    built(b"no blocks", &[], &[], &[], &[]);
-    built(b"components 2,0", &[1, 1], &[0, 1], &[0, 0], &[2, 0]);
-    built(b"same block twice", &[1, 1], &[0, 0], &[0, 0], &[2, 1]);
-    built(b"kind 7", &[7], &[0], &[0], &[1]);
+fn refused_layouts(rt: &impl Print) -> io::Result<()> {
+    built(rt, "no blocks", &[], &[], &[], &[])?;
+    built(rt, "components 2,0", &[1, 1], &[0, 1], &[0, 0], &[2, 0])?;
+    built(rt, "same block twice", &[1, 1], &[0, 0], &[0, 0], &[2, 1])?;
+    built(rt, "kind 7", &[7], &[0], &[0], &[1])?;
     show_check(
-        b"total 4, 3 by 3",
+        rt,
+        "total 4, 3 by 3",
         hybit_matrix::layout::hybit_layout_validate_square_matrix_size(
             &[1],
             &[0],
@@ -165,28 +201,28 @@ fn refused_layouts() {
             3,
             3,
         ),
-    );
+    )?;
     show_check(
-        b"offsets 1,1",
+        rt,
+        "offsets 1,1",
         hybit_matrix::layout::hybit_layout_check(&[1], &[0], &[0], &[1], &[1, 1]),
-    );
+    )
 }
 
 // A node of a mask of three, if it is in it.
-fn member(words: &[u64], node: u64) {
+fn member(rt: &impl Print, words: &[u64], node: u64) -> io::Result<()> {
     if hybit_matrix::hybit_mask_contains(3, words, node).value == 1 {
-        io::write_all(STDOUT_FILENO, b" ");
-        io::print_decimal(STDOUT_FILENO, node);
+        print!(rt; " {node}")?;
     }
+    Ok(())
 }
 
-fn members(what: &[u8], words: &[u64]) {
-    io::write_all(STDOUT_FILENO, what);
-    io::write_all(STDOUT_FILENO, b":");
-    member(words, 0);
-    member(words, 1);
-    member(words, 2);
-    io::write_all(STDOUT_FILENO, b"\n");
+fn members(rt: &impl Print, what: &str, words: &[u64]) -> io::Result<()> {
+    print!(rt; "{what}:")?;
+    member(rt, words, 0)?;
+    member(rt, words, 1)?;
+    member(rt, words, 2)?;
+    println!(rt; "")
 }
 
 fn digit(yes: bool) -> u64 {
@@ -196,15 +232,12 @@ fn digit(yes: bool) -> u64 {
     0
 }
 
-fn figure(what: &[u8], value: u64) {
-    io::write_all(STDOUT_FILENO, what);
-    io::write_all(STDOUT_FILENO, b": ");
-    io::print_decimal(STDOUT_FILENO, value);
-    io::write_all(STDOUT_FILENO, b"\n");
+fn figure(rt: &impl Print, what: &str, value: u64) -> io::Result<()> {
+    println!(rt; "{what}: {value}")
 }
 
 // Entries (0,1), (1,2), side 3: the topology is handed in by its lists.
-fn growth(what: &[u8], seeds: &[u64], hops: u64) {
+fn growth(rt: &impl Print, what: &str, seeds: &[u64], hops: u64) -> io::Result<()> {
     let mut region = [0u64; 1];
     let mut frontier = [0u64; 1];
     let mut scratch = [0u64; 1];
@@ -228,13 +261,13 @@ fn growth(what: &[u8], seeds: &[u64], hops: u64) {
         &mut frontier,
         &mut scratch,
     );
-    members(what, &region);
-    members(b"its frontier", &frontier);
-    figure(b"hops completed", a.hops_completed);
+    members(rt, what, &region)?;
+    members(rt, "its frontier", &frontier)?;
+    figure(rt, "hops completed", a.hops_completed)
 }
 
 // The same entries, the unknowns in blocks of 2 and 1.
-fn field_growth(what: &[u8], seeds: &[u64], hops: u64) {
+fn field_growth(rt: &impl Print, what: &str, seeds: &[u64], hops: u64) -> io::Result<()> {
     let mut region = [0u64; 1];
     let mut frontier = [0u64; 1];
     let mut scratch = [0u64; 1];
@@ -263,32 +296,34 @@ fn field_growth(what: &[u8], seeds: &[u64], hops: u64) {
         &mut frontier,
         &mut scratch,
     );
-    members(what, &region);
-    figure(b"its blocks", a.region_blocks);
+    members(rt, what, &region)?;
+    figure(rt, "its blocks", a.region_blocks)
 }
 
-fn regions() {
-    growth(b"region of seed 0, 2 hops", &[1], 2);
-    growth(b"region of seed 0, 9 hops", &[1], 9);
-    growth(b"region of seed 2, 1 hop", &[4], 1);
-    field_growth(b"blocks of 2 and 1, seed 1, 0 hops", &[2], 0);
-    field_growth(b"blocks of 2 and 1, seed 1, 1 hop", &[2], 1);
+fn regions(rt: &impl Print) -> io::Result<()> {
+    growth(rt, "region of seed 0, 2 hops", &[1], 2)?;
+    growth(rt, "region of seed 0, 9 hops", &[1], 9)?;
+    growth(rt, "region of seed 2, 1 hop", &[4], 1)?;
+    field_growth(rt, "blocks of 2 and 1, seed 1, 0 hops", &[2], 0)?;
+    field_growth(rt, "blocks of 2 and 1, seed 1, 1 hop", &[2], 1)?;
     let mut counts = [0u32; 3];
     let m = hybit_matrix::regions::hybit_region_multiplicity(3, 3, &[3, 6, 2], &mut counts);
     figure(
-        b"regions {0,1}, {1,2}, {1}, their total",
+        rt,
+        "regions {0,1}, {1,2}, {1}, their total",
         m.total_memberships,
-    );
-    figure(b"their overlap nodes", m.overlap_nodes);
-    figure(b"their pairs", m.pair_overlap_memberships);
+    )?;
+    figure(rt, "their overlap nodes", m.overlap_nodes)?;
+    figure(rt, "their pairs", m.pair_overlap_memberships)?;
     show(
-        b"weight of the first at node 1",
+        rt,
+        "weight of the first at node 1",
         hybit_matrix::regions::hybit_weight(3, 3, &[3, 6, 2], 0, 1),
-    );
+    )
 }
 
 // The list of growths by 1, by 5 and by 1 from seed 0, of which the second is lent no words and is refused; then the local system of the region.
-fn runs() {
+fn runs(rt: &impl Print) -> io::Result<()> {
     let mut seeds = [1u64; 1];
     let mut region = [0u64; 1];
     let mut frontier = [0u64; 1];
@@ -333,27 +368,33 @@ fn runs() {
         &mut values,
     );
     if let RunAnswer::Grown(ran, cut) = answer {
-        figure(b"growths by 1, 5 (refused) and 1, accepted", ran.accepted);
-        figure(b"their total", ran.total);
-        members(b"the region then", &region);
-        members(b"the frontier then", &frontier);
+        figure(
+            rt,
+            "growths by 1, 5 (refused) and 1, accepted",
+            ran.accepted,
+        )?;
+        figure(rt, "their total", ran.total)?;
+        members(rt, "the region then", &region)?;
+        members(rt, "the frontier then", &frontier)?;
         let gathered = cut.gathered;
         if let Counted::Count(pairs) = gathered {
-            figure(b"gathered values", pairs);
+            figure(rt, "gathered values", pairs)?;
         }
         figure(
-            b"0.5 and 0.25, bit for bit",
+            rt,
+            "0.5 and 0.25, bit for bit",
             digit(values[0] == 0.5 && values[1] == 0.25),
-        );
+        )?;
     }
+    Ok(())
 }
 
-fn main() {
-    words();
-    matrices();
-    masks();
-    layouts();
-    refused_layouts();
-    regions();
-    runs();
+fn main(rt: HostRuntime) -> io::Result<()> {
+    words(&rt)?;
+    matrices(&rt)?;
+    masks(&rt)?;
+    layouts(&rt)?;
+    refused_layouts(&rt)?;
+    regions(&rt)?;
+    runs(&rt)
 }

@@ -1,6 +1,6 @@
 -- A layout: blocks of consecutive nodes, each with a kind, an id, a field id and a component count, in four lists; once built, its offsets.
 -- Its check, and the block of a node.
-use Rattle.std.specs.Prelude.{◌≡◌, Bool, not, ◌&&◌, ◌||◌, List, ℕ, suc, ◌≤◌, ◌<◌, leb, eqb, length, get_or}
+use Rattle.std.specs.Prelude.{◌≡◌, Bool, not, ◌||◌, List, ℕ, suc, ◌≤◌, ◌<◌, leb, eqb, length, get_or}
 use Rattle.base.specs.Checks.{must, must_be, ◌then◌, checks_below, side_limit}
 use Rattle.base.specs.Lists.{same_list, list_from}
 use Rattle.base.specs.Sets.{between, any_below, first_below, sum_below}

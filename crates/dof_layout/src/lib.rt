@@ -1,6 +1,7 @@
 // A layout of the unknowns: blocks of consecutive nodes, each a kind, an id, a field id and a component count. The functions of
 // FieldAwareDofLayout on lent lists.
 #![tactic(auto)]
+
 ghost use Rattle.std.specs.Prelude.{◌≡◌};
 ghost use Rattle.dof_layout.specs.Layout.{layout_check};
 ghost use Rattle.dof_layout.specs.Answers.{code_of, kind_answer, new_answer, new_offsets, total_answer, range_answer, locate_answer, square_check, field_answer, field_words};

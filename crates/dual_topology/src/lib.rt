@@ -1,6 +1,7 @@
 // Both sides of a topology, `AbtmDualTopology` of the Rust: the rows, and the columns as rows of the transpose. A topology is handed in as two
 // sides, each with its own sizes, lists and pair count; its check finds sides that disagree.
 #![tactic(auto)]
+
 ghost use Rattle.std.specs.Prelude.{◌≡◌, ◌+◌, length};
 ghost use Rattle.csr32.specs.Matrix.{stored};
 ghost use Rattle.side.specs.Side.{flip, side_holds};

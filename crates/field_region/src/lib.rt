@@ -1,6 +1,7 @@
 // Regions of whole field blocks, field_region.rs of the Rust: closing a mask to blocks, growth that closes before the first hop and after
 // every hop, and the owner of each block.
 #![tactic(auto)]
+
 ghost use Rattle.std.specs.Prelude.{◌≡◌};
 ghost use Rattle.side.specs.Side.{side_holds};
 ghost use Rattle.dof_layout.specs.Layout.{total_of};

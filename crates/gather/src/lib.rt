@@ -1,5 +1,6 @@
 // The gather of a plan, region.rs of the Rust: one value for each pair of a local pattern, from the values of the whole matrix.
 #![tactic(auto)]
+
 ghost use Rattle.std.specs.Prelude.{◌≡◌};
 ghost use Rattle.gather.specs.Gather.{gather_check, gather_answer, gather_left};
 

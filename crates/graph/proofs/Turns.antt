@@ -13,7 +13,7 @@ use Rattle.base.proofs.Sets.{any-i, any-e, any-cong, below_next}
 use Rattle.mask.specs.Mask.{in_mask, mask_words}
 use Rattle.mask.specs.Answers.{combined, union, and_not_of}
 use Rattle.mask.proofs.Masks.{mask-cong, mask-holds}
-use Rattle.graph.specs.Distance.{exactly, any_at, completed}
+use Rattle.graph.specs.Distance.{exactly, any_at}
 use Rattle.graph.specs.Network.{Network, touched, holding, closed, linked, seeded, in_region, in_frontier, hops_made, region_words, frontier_words}
 use Rattle.graph.proofs.Distances.{any-at-i, any-at-e, ended, Ended, exactly-within}
 use Rattle.graph.proofs.Networks.{Whole, hop-start, hop-start-frontier, hop-region, hop-frontier, reached-node}

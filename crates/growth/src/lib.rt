@@ -1,6 +1,7 @@
 // The work of growing on words: the frontier's rows and columns joined into one mask, the new nodes taken into the region, hop by hop. Plain
 // growth is here; field growth closes to blocks between the same two steps.
 #![tactic(auto)]
+
 pub mod inner;
 
 // Of one row: its words, and the set bits in them.

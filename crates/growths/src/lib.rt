@@ -1,6 +1,7 @@
 // Lists of growths, refused ones among them, each seeded with the region that the last accepted one gave: what demand 3 speaks of. Functions run
 // one that is given by arrays, plain or by whole blocks. It holds no public call.
 #![tactic(auto)]
+
 pub mod inner;
 
 // Of a list of growths: how many were accepted, the total of their counts, the last of their counts.

@@ -1,4 +1,4 @@
-// The calls on a topology and its rows as C functions. A row is named by side and number: `columns` says which side.
+// The calls on a topology and its rows with flat answers. A row is named by side and number: `columns` says which side.
 ghost use Rattle.std.specs.Prelude.{◌≡◌, ◌+◌, length};
 ghost use Rattle.csr32.specs.Matrix.{stored};
 ghost use Rattle.side.specs.Side.{flip, side_holds};
@@ -133,8 +133,7 @@ fn side_named(columns: bool) -> RowOf
 
 // Both sides of a matrix's pairs: each needs its rows + 1 pointers and as many words as entries, zero past its own. `starts` (ncols + 1) and
 // `order` (one for each entry) are scratch, zero afterwards. Refuses 1 to 8, 25.
-#[unsafe(no_mangle)]
-pub extern "C" fn hybit_dual_topology_from_csr32(
+pub fn hybit_dual_topology_from_csr32(
     nrows: usize,
     ncols: usize,
     row_ptr: &[u32],
@@ -177,8 +176,7 @@ pub extern "C" fn hybit_dual_topology_from_csr32(
 }
 
 // Checks a topology: 1 (both sides), 9 (each side, and that the columns are the transpose of the rows).
-#[unsafe(no_mangle)]
-pub extern "C" fn hybit_dual_topology_validate(
+pub fn hybit_dual_topology_validate(
     nrows: usize,
     ncols: usize,
     row_word_ptr: &[u32],
@@ -211,8 +209,7 @@ pub extern "C" fn hybit_dual_topology_validate(
 }
 
 // Counts and bytes of a topology. Refuses 1, 9.
-#[unsafe(no_mangle)]
-pub extern "C" fn hybit_dual_topology_stats(
+pub fn hybit_dual_topology_stats(
     nrows: usize,
     ncols: usize,
     row_word_ptr: &[u32],
@@ -245,8 +242,7 @@ pub extern "C" fn hybit_dual_topology_stats(
 }
 
 // value: how many words a row stores. Refuses 1, 9, then 13 for the number.
-#[unsafe(no_mangle)]
-pub extern "C" fn hybit_row_words(
+pub fn hybit_row_words(
     nrows: usize,
     ncols: usize,
     row_word_ptr: &[u32],
@@ -283,8 +279,7 @@ pub extern "C" fn hybit_row_words(
 }
 
 // value: how many columns a row has. Refuses as row_words.
-#[unsafe(no_mangle)]
-pub extern "C" fn hybit_row_popcount(
+pub fn hybit_row_popcount(
     nrows: usize,
     ncols: usize,
     row_word_ptr: &[u32],
@@ -321,8 +316,7 @@ pub extern "C" fn hybit_row_popcount(
 }
 
 // value: 1 if the row has the column, else 0; past the last column 0. Refuses as row_words.
-#[unsafe(no_mangle)]
-pub extern "C" fn hybit_row_contains(
+pub fn hybit_row_contains(
     nrows: usize,
     ncols: usize,
     row_word_ptr: &[u32],
@@ -361,8 +355,7 @@ pub extern "C" fn hybit_row_contains(
 }
 
 // value: how many of the row's columns stand below `col`. Refuses as row_words, then 13 for a column past the end.
-#[unsafe(no_mangle)]
-pub extern "C" fn hybit_row_rank(
+pub fn hybit_row_rank(
     nrows: usize,
     ncols: usize,
     row_word_ptr: &[u32],
@@ -401,8 +394,7 @@ pub extern "C" fn hybit_row_rank(
 }
 
 // value: the row's column number `ordinal`, counted from 0; or none. Refuses as row_words.
-#[unsafe(no_mangle)]
-pub extern "C" fn hybit_row_select(
+pub fn hybit_row_select(
     nrows: usize,
     ncols: usize,
     row_word_ptr: &[u32],
@@ -441,8 +433,7 @@ pub extern "C" fn hybit_row_select(
 }
 
 // first and second: number and bits of the row's word k; or none. Refuses as row_words.
-#[unsafe(no_mangle)]
-pub extern "C" fn hybit_row_word(
+pub fn hybit_row_word(
     nrows: usize,
     ncols: usize,
     row_word_ptr: &[u32],

@@ -1,4 +1,4 @@
-// The calls of a layout as C functions.
+// The calls of a layout with flat answers.
 ghost use Rattle.std.specs.Prelude.{◌≡◌};
 ghost use Rattle.dof_layout.specs.Layout.{layout_check};
 ghost use Rattle.dof_layout.specs.Answers.{kind_answer, new_answer, new_offsets, total_answer, range_answer, locate_answer, square_check, field_answer, field_words};
@@ -77,16 +77,14 @@ fn flat_located(a: Located) -> PairAnswer
 }
 
 // value: the kind's number, which is the code. Refuses 17.
-#[unsafe(no_mangle)]
-pub extern "C" fn hybit_kind_of(code: u32) -> Answer
+pub fn hybit_kind_of(code: u32) -> Answer
     ensures { result ≡ flat_of_kinded (kind_answer code) }
 {
     flat_kinded(dof_layout::kind_of(code))
 }
 
 // Running totals of the components in `out`, which needs blocks + 1; value: the total. Refuses 14, 11, by block 17, 15, 16, 1, then 25.
-#[unsafe(no_mangle)]
-pub extern "C" fn hybit_layout_new(
+pub fn hybit_layout_new(
     entity_kinds: &[u8],
     entity_ids: &[u64],
     field_ids: &[u32],
@@ -100,8 +98,7 @@ pub extern "C" fn hybit_layout_new(
 }
 
 // Checks a layout: as new, then 26.
-#[unsafe(no_mangle)]
-pub extern "C" fn hybit_layout_check(
+pub fn hybit_layout_check(
     entity_kinds: &[u8],
     entity_ids: &[u64],
     field_ids: &[u32],
@@ -114,8 +111,7 @@ pub extern "C" fn hybit_layout_check(
 }
 
 // value: the total. Refuses as the check.
-#[unsafe(no_mangle)]
-pub extern "C" fn hybit_layout_total_dofs(
+pub fn hybit_layout_total_dofs(
     entity_kinds: &[u8],
     entity_ids: &[u64],
     field_ids: &[u32],
@@ -134,8 +130,7 @@ pub extern "C" fn hybit_layout_total_dofs(
 }
 
 // first and second: start and end of a block; past the last block none. Refuses as the check.
-#[unsafe(no_mangle)]
-pub extern "C" fn hybit_layout_block_range(
+pub fn hybit_layout_block_range(
     entity_kinds: &[u8],
     entity_ids: &[u64],
     field_ids: &[u32],
@@ -156,8 +151,7 @@ pub extern "C" fn hybit_layout_block_range(
 }
 
 // first and second: block and component of a node; past the last node none. Refuses as the check.
-#[unsafe(no_mangle)]
-pub extern "C" fn hybit_layout_locate(
+pub fn hybit_layout_locate(
     entity_kinds: &[u8],
     entity_ids: &[u64],
     field_ids: &[u32],
@@ -178,8 +172,7 @@ pub extern "C" fn hybit_layout_locate(
 }
 
 // Whether the total is both sides. Refuses as the check, then 18.
-#[unsafe(no_mangle)]
-pub extern "C" fn hybit_layout_validate_square_matrix_size(
+pub fn hybit_layout_validate_square_matrix_size(
     entity_kinds: &[u8],
     entity_ids: &[u64],
     field_ids: &[u32],
@@ -202,8 +195,7 @@ pub extern "C" fn hybit_layout_validate_square_matrix_size(
 }
 
 // The mask of a field's nodes in `out`, which needs the words of a mask of the total; value: the total. Refuses as the check, then 25.
-#[unsafe(no_mangle)]
-pub extern "C" fn hybit_layout_field_mask(
+pub fn hybit_layout_field_mask(
     entity_kinds: &[u8],
     entity_ids: &[u64],
     field_ids: &[u32],

@@ -1,5 +1,6 @@
-// The static library: every public call as a C function, its answer as one flat record. Slices pass as a pointer and a length.
+// Every public call as one function over lists, its answer as one flat record. The static library hybit_matrix_c exports each for C.
 #![tactic(auto)]
+
 ghost use Rattle.std.specs.Prelude.{◌≡◌, ◌*◌};
 ghost use Rattle.base.specs.Sets.{count_below};
 ghost use Rattle.word.specs.Bits.{bit_at};
@@ -126,72 +127,63 @@ fn flat_selected(s: Selected) -> Answer
 }
 
 // The width of a word, 64.
-#[unsafe(no_mangle)]
-pub extern "C" fn hybit_word_bits() -> usize
+pub fn hybit_word_bits() -> usize
     ensures { result ≡ 64 }
 {
     AbtmTopologyWord::BITS
 }
 
 // The word's number in its row.
-#[unsafe(no_mangle)]
-pub extern "C" fn hybit_word_word_index(word_index: u32, mask: u64) -> u32
+pub fn hybit_word_word_index(word_index: u32, mask: u64) -> u32
     ensures { result ≡ word_index }
 {
     AbtmTopologyWord::new(word_index, mask).word_index()
 }
 
 // The column of the word's bit 0: 64 times its number.
-#[unsafe(no_mangle)]
-pub extern "C" fn hybit_word_base_col(word_index: u32, mask: u64) -> usize
+pub fn hybit_word_base_col(word_index: u32, mask: u64) -> usize
     ensures { result ≡ word_index * 64 }
 {
     AbtmTopologyWord::new(word_index, mask).base_col()
 }
 
 // The word's bits.
-#[unsafe(no_mangle)]
-pub extern "C" fn hybit_word_mask(word_index: u32, mask: u64) -> u64
+pub fn hybit_word_mask(word_index: u32, mask: u64) -> u64
     ensures { result ≡ mask }
 {
     AbtmTopologyWord::new(word_index, mask).mask()
 }
 
 // How many bits are set.
-#[unsafe(no_mangle)]
-pub extern "C" fn hybit_word_popcount(word_index: u32, mask: u64) -> usize
+pub fn hybit_word_popcount(word_index: u32, mask: u64) -> usize
     ensures { result ≡ count_below 64 (bit_at mask) }
 {
     AbtmTopologyWord::new(word_index, mask).popcount()
 }
 
 // Whether bit `offset` is set; past 63: no.
-#[unsafe(no_mangle)]
-pub extern "C" fn hybit_word_contains_offset(word_index: u32, mask: u64, offset: usize) -> bool
+pub fn hybit_word_contains_offset(word_index: u32, mask: u64, offset: usize) -> bool
     ensures { result ≡ word.contains_answer mask offset }
 {
     AbtmTopologyWord::new(word_index, mask).contains_offset(offset)
 }
 
 // value: how many set bits stand below `offset`. Refuses 13 past 64.
-#[unsafe(no_mangle)]
-pub extern "C" fn hybit_word_rank(word_index: u32, mask: u64, offset: usize) -> Answer
+pub fn hybit_word_rank(word_index: u32, mask: u64, offset: usize) -> Answer
     ensures { result ≡ flat_of_ranked (rank_answer mask offset) }
 {
     flat_ranked(AbtmTopologyWord::new(word_index, mask).rank(offset))
 }
 
 // value: the set bit number `ordinal`, counted from 0; or none.
-#[unsafe(no_mangle)]
-pub extern "C" fn hybit_word_select(word_index: u32, mask: u64, ordinal: usize) -> Answer
+pub fn hybit_word_select(word_index: u32, mask: u64, ordinal: usize) -> Answer
     ensures { result ≡ flat_of_selected (select_answer mask ordinal) }
 {
     flat_selected(AbtmTopologyWord::new(word_index, mask).select(ordinal))
 }
 
 // Checks a matrix: 1 to 8.
-#[unsafe(no_mangle)]
-pub extern "C" fn hybit_csr32_validate(
+pub fn hybit_csr32_validate(
     nrows: usize,
     ncols: usize,
     row_ptr: &[u32],
@@ -204,16 +196,14 @@ pub extern "C" fn hybit_csr32_validate(
 }
 
 // Checks a mask: 1, 11, 12. A mask of `len` nodes has exactly `len` / 64 words, rounded up.
-#[unsafe(no_mangle)]
-pub extern "C" fn hybit_mask_check(len: usize, words: &[u64]) -> Answer
+pub fn hybit_mask_check(len: usize, words: &[u64]) -> Answer
     ensures { result ≡ flat_of_checked (mask_check len words.now) }
 {
     flat_checked(mask::check(len, words))
 }
 
 // The empty mask in `out`, which needs its words. Refuses 1, 25.
-#[unsafe(no_mangle)]
-pub extern "C" fn hybit_mask_new(len: usize, out: &mut [u64]) -> Answer
+pub fn hybit_mask_new(len: usize, out: &mut [u64]) -> Answer
     ensures value { result ≡ flat_of_checked (new_check len out.old) }
     ensures out_after { out.new ≡ new_words len out.old }
 {
@@ -221,8 +211,7 @@ pub extern "C" fn hybit_mask_new(len: usize, out: &mut [u64]) -> Answer
 }
 
 // The mask of the indices in `out`, which needs its words. Refuses 1, 13, 25.
-#[unsafe(no_mangle)]
-pub extern "C" fn hybit_mask_from_indices(len: usize, indices: &[u64], out: &mut [u64]) -> Answer
+pub fn hybit_mask_from_indices(len: usize, indices: &[u64], out: &mut [u64]) -> Answer
     ensures value { result ≡ flat_of_checked (from_check len indices.now out.old) }
     ensures out_after { out.new ≡ from_words len indices.now out.old }
 {
@@ -230,24 +219,21 @@ pub extern "C" fn hybit_mask_from_indices(len: usize, indices: &[u64], out: &mut
 }
 
 // value: 1 if no node is set, else 0. Refuses as the check.
-#[unsafe(no_mangle)]
-pub extern "C" fn hybit_mask_is_empty(len: usize, words: &[u64]) -> Answer
+pub fn hybit_mask_is_empty(len: usize, words: &[u64]) -> Answer
     ensures { result ≡ flat_of_truth (empty_answer len words.now) }
 {
     flat_truth(mask::is_empty(len, words))
 }
 
 // value: how many nodes are set. Refuses as the check.
-#[unsafe(no_mangle)]
-pub extern "C" fn hybit_mask_count_ones(len: usize, words: &[u64]) -> Answer
+pub fn hybit_mask_count_ones(len: usize, words: &[u64]) -> Answer
     ensures { result ≡ flat_of_counted (count_answer len words.now) }
 {
     flat_counted(mask::count_ones(len, words))
 }
 
 // Sets or clears one node. Refuses as the check, then 13.
-#[unsafe(no_mangle)]
-pub extern "C" fn hybit_mask_set(len: usize, words: &mut [u64], index: u64, value: bool) -> Answer
+pub fn hybit_mask_set(len: usize, words: &mut [u64], index: u64, value: bool) -> Answer
     ensures value { result ≡ flat_of_checked (set_check len words.old index) }
     ensures words_after { words.new ≡ set_words len words.old index value }
 {
@@ -255,16 +241,14 @@ pub extern "C" fn hybit_mask_set(len: usize, words: &mut [u64], index: u64, valu
 }
 
 // value: 1 if the node is set, else 0; past the length 0. Refuses as the check.
-#[unsafe(no_mangle)]
-pub extern "C" fn hybit_mask_contains(len: usize, words: &[u64], index: u64) -> Answer
+pub fn hybit_mask_contains(len: usize, words: &[u64], index: u64) -> Answer
     ensures { result ≡ flat_of_truth (contains_answer len words.now index) }
 {
     flat_truth(mask::contains(len, words, index))
 }
 
 // Joins the other mask to the first. Refuses as the check, then for the other 11 (its length, its words), 12.
-#[unsafe(no_mangle)]
-pub extern "C" fn hybit_mask_union_assign(
+pub fn hybit_mask_union_assign(
     len: usize,
     words: &mut [u64],
     other_len: usize,
@@ -277,8 +261,7 @@ pub extern "C" fn hybit_mask_union_assign(
 }
 
 // Keeps the nodes that both have. Refuses as the union.
-#[unsafe(no_mangle)]
-pub extern "C" fn hybit_mask_intersect_assign(
+pub fn hybit_mask_intersect_assign(
     len: usize,
     words: &mut [u64],
     other_len: usize,
@@ -291,8 +274,7 @@ pub extern "C" fn hybit_mask_intersect_assign(
 }
 
 // Takes the other mask's nodes away. Refuses as the union.
-#[unsafe(no_mangle)]
-pub extern "C" fn hybit_mask_and_not_assign(
+pub fn hybit_mask_and_not_assign(
     len: usize,
     words: &mut [u64],
     other_len: usize,
@@ -305,21 +287,14 @@ pub extern "C" fn hybit_mask_and_not_assign(
 }
 
 // value: 1 if both have a node, else 0. Refuses as the union.
-#[unsafe(no_mangle)]
-pub extern "C" fn hybit_mask_intersects(
-    len: usize,
-    words: &[u64],
-    other_len: usize,
-    other: &[u64],
-) -> Answer
+pub fn hybit_mask_intersects(len: usize, words: &[u64], other_len: usize, other: &[u64]) -> Answer
     ensures { result ≡ flat_of_truth (intersects_answer len words.now other_len other.now) }
 {
     flat_truth(mask::intersects(len, words, other_len, other))
 }
 
 // The nodes in rising order in `out`, which needs one place for each; value: how many. Refuses as the check, then 25.
-#[unsafe(no_mangle)]
-pub extern "C" fn hybit_mask_indices(len: usize, words: &[u64], out: &mut [u64]) -> Answer
+pub fn hybit_mask_indices(len: usize, words: &[u64], out: &mut [u64]) -> Answer
     ensures value { result ≡ flat_of_counted (indices_answer len words.now out.old) }
     ensures out_after { out.new ≡ indices_list len words.now out.old }
 {
@@ -327,13 +302,7 @@ pub extern "C" fn hybit_mask_indices(len: usize, words: &[u64], out: &mut [u64])
 }
 
 // Sets the bits in one word; past the last word nothing changes, bits past the length are dropped. Refuses as the check.
-#[unsafe(no_mangle)]
-pub extern "C" fn hybit_mask_or_word(
-    len: usize,
-    words: &mut [u64],
-    word_index: u64,
-    bits: u64,
-) -> Answer
+pub fn hybit_mask_or_word(len: usize, words: &mut [u64], word_index: u64, bits: u64) -> Answer
     ensures value { result ≡ flat_of_checked (mask_check len words.old) }
     ensures words_after { words.new ≡ or_word_words len words.old word_index bits }
 {

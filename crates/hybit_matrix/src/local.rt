@@ -1,4 +1,4 @@
-// The calls on the local system of a region as C functions: pattern, numeric plan, gather.
+// The calls on the local system of a region with flat answers: pattern, numeric plan, gather.
 ghost use Rattle.std.specs.Prelude.{◌≡◌};
 ghost use Rattle.csr32.specs.Matrix.{matrix_check, stored};
 ghost use Rattle.mask.specs.Mask.{in_mask};
@@ -122,8 +122,7 @@ fn flat_plan(s: PlanPrepared) -> PlanAnswer
 
 // The local system's pattern: members, members + 1 row pointers, and one column for each pair inside. Refuses as the topology, 10, 11, 12 for
 // the region, 25.
-#[unsafe(no_mangle)]
-pub extern "C" fn hybit_extract_local_submatrix_pattern(
+pub fn hybit_extract_local_submatrix_pattern(
     nrows: usize,
     ncols: usize,
     row_word_ptr: &[u32],
@@ -170,8 +169,7 @@ pub extern "C" fn hybit_extract_local_submatrix_pattern(
 
 // Pattern and plan: the pattern's lists, pairs + 1 source pointers, and one source for each entry inside. Refuses as the matrix, the topology, 22,
 // 10, 11, 12 for the region, by local row 23, 24, then 25.
-#[unsafe(no_mangle)]
-pub extern "C" fn hybit_prepare_local_numeric_plan(
+pub fn hybit_prepare_local_numeric_plan(
     nrows: usize,
     ncols: usize,
     row_word_ptr: &[u32],
@@ -234,8 +232,7 @@ pub extern "C" fn hybit_prepare_local_numeric_plan(
 
 // One value for each pair of a plan in `out`; value: how many. `source_value_len`: the number of values that the plan was made for. Refuses 1,
 // 26, 11, 8, 25.
-#[unsafe(no_mangle)]
-pub extern "C" fn hybit_gather_values(
+pub fn hybit_gather_values(
     source_ptr: &[u32],
     source_indices: &[u32],
     source_value_len: usize,

@@ -1,4 +1,4 @@
-// The calls on one side of a topology as C functions.
+// The calls on one side of a topology with flat answers.
 ghost use Rattle.std.specs.Prelude.{◌≡◌, ◌+◌, length};
 ghost use Rattle.csr32.specs.Matrix.{stored};
 ghost use Rattle.word.specs.Answers.{on};
@@ -78,8 +78,7 @@ fn flat_built(b: SideBuilt) -> PairAnswer
 }
 
 // Checks one side: 1, 9.
-#[unsafe(no_mangle)]
-pub extern "C" fn hybit_topology_validate(
+pub fn hybit_topology_validate(
     nrows: usize,
     ncols: usize,
     row_word_ptr: &[u32],
@@ -100,8 +99,7 @@ pub extern "C" fn hybit_topology_validate(
 }
 
 // Counts, bytes and ratios of one side. Refuses 1, 9.
-#[unsafe(no_mangle)]
-pub extern "C" fn hybit_topology_stats(
+pub fn hybit_topology_stats(
     nrows: usize,
     ncols: usize,
     row_word_ptr: &[u32],
@@ -123,8 +121,7 @@ pub extern "C" fn hybit_topology_stats(
 
 // One side of a matrix's pairs: the lists need nrows + 1 pointers and as many words as entries, zero past its own; first and second: words and
 // pairs. Refuses 1 to 8, 25.
-#[unsafe(no_mangle)]
-pub extern "C" fn hybit_topology_from_csr32(
+pub fn hybit_topology_from_csr32(
     nrows: usize,
     ncols: usize,
     row_ptr: &[u32],
@@ -153,8 +150,7 @@ pub extern "C" fn hybit_topology_from_csr32(
 
 // The pairs that both sides have: the lists need nrows + 1 pointers and as many words as both together, zero past its own; first and second:
 // words and pairs. Refuses 1, 9 for each, 22, 25.
-#[unsafe(no_mangle)]
-pub extern "C" fn hybit_topology_intersection(
+pub fn hybit_topology_intersection(
     nrows: usize,
     ncols: usize,
     ptr_a: &[u32],
@@ -196,8 +192,7 @@ pub extern "C" fn hybit_topology_intersection(
 }
 
 // The pairs of either side; all else as the intersection.
-#[unsafe(no_mangle)]
-pub extern "C" fn hybit_topology_union(
+pub fn hybit_topology_union(
     nrows: usize,
     ncols: usize,
     ptr_a: &[u32],
@@ -239,8 +234,7 @@ pub extern "C" fn hybit_topology_union(
 }
 
 // The pairs of the first side that the second lacks; all else as the intersection.
-#[unsafe(no_mangle)]
-pub extern "C" fn hybit_topology_and_not(
+pub fn hybit_topology_and_not(
     nrows: usize,
     ncols: usize,
     ptr_a: &[u32],
@@ -282,8 +276,7 @@ pub extern "C" fn hybit_topology_and_not(
 }
 
 // The pairs that one side alone has; all else as the intersection.
-#[unsafe(no_mangle)]
-pub extern "C" fn hybit_topology_xor(
+pub fn hybit_topology_xor(
     nrows: usize,
     ncols: usize,
     ptr_a: &[u32],

@@ -1,4 +1,4 @@
-// A prepared region, its block owners and the job program as C functions.
+// A prepared region, its block owners and the job program with flat answers.
 ghost use Rattle.std.specs.Prelude.{◌≡◌, ◌+◌, length};
 ghost use Rattle.csr32.specs.Matrix.{matrix_check, stored};
 ghost use Rattle.dof_layout.specs.Layout.{total_of};
@@ -154,8 +154,7 @@ fn flat_prepared(s: RegionPrepared) -> PreparedAnswer
 // Topology, region, pattern and plan of a matrix, a layout and seeds in one call. Each side's pointers and words, `starts` and `order` as in
 // building; three masks; side members, side + 1 row pointers, as many columns and sources as entries, entries + 1 source pointers, zero past
 // the answer. Refuses as the matrix, the layout, 18, 11, 12 for the seeds, 25.
-#[unsafe(no_mangle)]
-pub extern "C" fn hybit_prepare_region(
+pub fn hybit_prepare_region(
     nrows: usize,
     ncols: usize,
     row_ptr: &[u32],
@@ -238,8 +237,7 @@ pub extern "C" fn hybit_prepare_region(
 }
 
 // As field_block_owners, on a matrix and its layout. Refuses as the matrix, the layout, 18, then as field_block_owners.
-#[unsafe(no_mangle)]
-pub extern "C" fn hybit_validate_block_owners(
+pub fn hybit_validate_block_owners(
     nrows: usize,
     ncols: usize,
     row_ptr: &[u32],
@@ -275,8 +273,7 @@ pub extern "C" fn hybit_validate_block_owners(
 }
 
 // A job's text in, the answer's text out, a refused job's too; value: its length in bytes. Refuses 25 alone.
-#[unsafe(no_mangle)]
-pub extern "C" fn hybit_peak_job(input: &[u8], out: &mut [u8]) -> Answer
+pub fn hybit_peak_job(input: &[u8], out: &mut [u8]) -> Answer
     ensures value { result ≡ flat_of_counted (text_answer (answer_text input.now) out.old) }
     ensures out_after { out.new ≡ text_left (answer_text input.now) out.old }
 {

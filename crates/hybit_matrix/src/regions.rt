@@ -1,4 +1,4 @@
-// The calls on regions as C functions: growth, field growth, closing to blocks, owners, multiplicity, weight.
+// The calls on regions with flat answers: growth, field growth, closing to blocks, owners, multiplicity, weight.
 ghost use Rattle.std.specs.Prelude.{◌≡◌};
 ghost use Rattle.side.specs.Side.{side_holds};
 ghost use Rattle.dof_layout.specs.Layout.{total_of};
@@ -198,8 +198,7 @@ fn flat_regions(s: RegionsCounted) -> MultiplicityAnswer
 
 // Region and frontier after `hops` hops, each node a block. Three masks of the side: region, frontier, and scratch, zero afterwards. Refuses as
 // the topology, 10, 11, 12 for the seeds, 25.
-#[unsafe(no_mangle)]
-pub extern "C" fn hybit_grow_undirected_region(
+pub fn hybit_grow_undirected_region(
     nrows: usize,
     ncols: usize,
     row_word_ptr: &[u32],
@@ -247,8 +246,7 @@ pub extern "C" fn hybit_grow_undirected_region(
 }
 
 // The same by whole blocks of the layout. Refuses as the topology, the layout, 18, 11, 12 for the seeds, 25.
-#[unsafe(no_mangle)]
-pub extern "C" fn hybit_grow_field_aware_region(
+pub fn hybit_grow_field_aware_region(
     nrows: usize,
     ncols: usize,
     row_word_ptr: &[u32],
@@ -306,8 +304,7 @@ pub extern "C" fn hybit_grow_field_aware_region(
 }
 
 // The whole blocks of the nodes in `out`, a mask of the total; value: the total. Refuses as the layout, 11, 12 for the mask, 25.
-#[unsafe(no_mangle)]
-pub extern "C" fn hybit_close_to_field_blocks(
+pub fn hybit_close_to_field_blocks(
     entity_kinds: &[u8],
     entity_ids: &[u64],
     field_ids: &[u32],
@@ -333,8 +330,7 @@ pub extern "C" fn hybit_close_to_field_blocks(
 }
 
 // The owner of each block in `out`, which needs one place for each; value: how many. Refuses as the layout, 11, 19, by block 20, 21, then 25.
-#[unsafe(no_mangle)]
-pub extern "C" fn hybit_field_block_owners(
+pub fn hybit_field_block_owners(
     entity_kinds: &[u8],
     entity_ids: &[u64],
     field_ids: &[u32],
@@ -361,8 +357,7 @@ pub extern "C" fn hybit_field_block_owners(
 
 // How many regions hold each node, in `counts`, which needs one place for each node. `words`: the masks of the regions one after the other.
 // Refuses 1, 11, 12, 25.
-#[unsafe(no_mangle)]
-pub extern "C" fn hybit_region_multiplicity(
+pub fn hybit_region_multiplicity(
     node_count: usize,
     region_count: usize,
     words: &[u64],
@@ -375,8 +370,7 @@ pub extern "C" fn hybit_region_multiplicity(
 }
 
 // value: the region's weight at a node, 65,536 divided by the node's multiplicity, rounded down; 0 where it does not hold it. Refuses 1, 11, 12, 13.
-#[unsafe(no_mangle)]
-pub extern "C" fn hybit_weight(
+pub fn hybit_weight(
     node_count: usize,
     region_count: usize,
     words: &[u64],

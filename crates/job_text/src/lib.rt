@@ -1,5 +1,6 @@
 // The text of a job and of its answer, document 01: the six lines of a job and what they ask, and the lines that answer it.
 #![tactic(auto)]
+
 pub mod inner;
 
 // Whether a text is a job, its two numbers, and how long its four lists are.

@@ -1,6 +1,7 @@
 // How many regions hold each node, and the weight of a region at a node: `region_multiplicity` of region.rs, and document 01's weight. The
 // regions stand one after the other in a flat list of words, each a mask of all nodes.
 #![tactic(auto)]
+
 ghost use Rattle.std.specs.Prelude.{◌≡◌};
 ghost use Rattle.multiplicity.specs.Multiplicity.{regions_check, multiplicity_check, multiplicity_answer, multiplicity_counts, weight_check, weight_answer};
 

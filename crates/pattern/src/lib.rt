@@ -1,5 +1,6 @@
 // The local system of a region, region.rs of the Rust: its members, and each stored pair with both ends inside once, numbered by member.
 #![tactic(auto)]
+
 ghost use Rattle.std.specs.Prelude.{◌≡◌};
 ghost use Rattle.mask.specs.Mask.{in_mask};
 ghost use Rattle.side.specs.Side.{side_holds};

@@ -1,17 +1,20 @@
 // The job program of document 01: a job's text on standard input, its answer on standard output, and nothing else.
 #![tactic(auto)]
+
 use base::Counted;
+use std::io::{self, Write};
+use streams::read_full;
 
 // One byte more than a job may have is read, so that a longer text is told apart. The list takes the longest answer (`answer-short` of peak_job).
-fn main() {
+fn main(rt: HostRuntime) -> io::Result<()> {
     let mut input = [0u8; 16385];
-    let got = io::read_full(libc::STDIN_FILENO, &mut input);
+    let got = read_full(&mut rt.reader(), &mut input)?;
     let mut out = [0u8; 40960];
     match peak_job::run(&input[0..got], &mut out) {
-        Counted::Refused(_) => {}
+        Counted::Refused(_) => Ok(()),
         Counted::Count(n) => {
             let length = n as usize;
-            io::write_all(libc::STDOUT_FILENO, &out[0..length]);
+            io::writer(&rt).write_all(&out[0..length])
         }
     }
 }

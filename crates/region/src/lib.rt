@@ -1,5 +1,6 @@
 // Regions of a topology's graph, region.rs of the Rust: growth hop by hop over rows and columns.
 #![tactic(auto)]
+
 ghost use Rattle.std.specs.Prelude.{◌≡◌};
 ghost use Rattle.side.specs.Side.{side_holds};
 ghost use Rattle.dual_topology.specs.Check.{topology_check};

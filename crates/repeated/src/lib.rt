@@ -1,6 +1,7 @@
 // For the benchmark only: a growth, a closing, a pattern, a plan or a gather made many times after one check of its inputs, so that its own time
-// can be told from the time of the checks. It leaves and answers what one call does. No part of the static library.
+// can be told from the time of the checks. It leaves and answers what one call does. repeated_c exports them; no part of a station's library.
 #![tactic(auto)]
+
 ghost use Rattle.std.specs.Prelude.{◌≡◌, false, ◌≤◌, length};
 ghost use Rattle.base.specs.Checks.{side_limit};
 ghost use Rattle.mask.specs.Mask.{words_needed, mask_words, IsMask};
@@ -91,8 +92,7 @@ fn repeat(
     grown
 }
 
-#[unsafe(no_mangle)]
-pub extern "C" fn hybit_repeated_growth(
+pub fn hybit_repeated_growth(
     nrows: usize,
     ncols: usize,
     row_word_ptr: &[u32],
@@ -233,8 +233,7 @@ fn repeat_blocks(
     grown
 }
 
-#[unsafe(no_mangle)]
-pub extern "C" fn hybit_repeated_field_growth(
+pub fn hybit_repeated_field_growth(
     nrows: usize,
     ncols: usize,
     row_word_ptr: &[u32],
@@ -339,8 +338,7 @@ fn repeat_closing(components: &[u32], offsets: &[u64], words: &[u64], times: u64
 }
 
 // The value is the count of nodes.
-#[unsafe(no_mangle)]
-pub extern "C" fn hybit_repeated_closing(
+pub fn hybit_repeated_closing(
     entity_kinds: &[u8],
     entity_ids: &[u64],
     field_ids: &[u32],

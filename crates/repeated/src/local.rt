@@ -65,8 +65,7 @@ fn repeat_pattern(
 }
 
 // The value is the count of pairs.
-#[unsafe(no_mangle)]
-pub extern "C" fn hybit_repeated_pattern(
+pub fn hybit_repeated_pattern(
     nrows: usize,
     ncols: usize,
     row_word_ptr: &[u32],
@@ -224,8 +223,7 @@ fn repeat_plan(
 }
 
 // The value is the count of sources.
-#[unsafe(no_mangle)]
-pub extern "C" fn hybit_repeated_plan(
+pub fn hybit_repeated_plan(
     nrows: usize,
     ncols: usize,
     row_word_ptr: &[u32],
@@ -327,8 +325,7 @@ fn repeat_gather(ptr: &[u32], sources: &[u32], values: &[f64], times: u64, out: 
 }
 
 // The value is the count of pairs.
-#[unsafe(no_mangle)]
-pub extern "C" fn hybit_repeated_gather(
+pub fn hybit_repeated_gather(
     source_ptr: &[u32],
     source_indices: &[u32],
     source_value_len: usize,

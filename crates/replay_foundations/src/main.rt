@@ -1,12 +1,15 @@
 // Replays recorded answers of the original Rust: records of 448 bytes on standard input, each a call, and for each an answer record of 168
 // bytes on standard output. oracle/README.md says what a record holds and how the records are made.
 #![tactic(auto)]
+
 ghost use Rattle.std.specs.Prelude.{◌≡◌, ◌≤◌, length};
 
 use hybit_matrix::Answer;
 use records::inner::{
     count_at, digit, number_at, put_list, put_number, read_list, read_narrow, read_reals,
 };
+use std::io::{self, Read, Write};
+use streams::read_full;
 
 fn put_answer(out: &mut [u8], a: Answer)
     requires { length out.old ≡ 168 }
@@ -152,19 +155,25 @@ fn answer(call: &[u8], out: &mut [u8])
     mask_call(code, call, out);
 }
 
-fn turn() -> bool {
+// Whether there was a whole record to answer.
+fn turn<R: Read, W: Write>(input: &mut R, output: &mut W) -> io::Result<bool> {
     let mut call = [0u8; 448];
-    if io::read_full(libc::STDIN_FILENO, &mut call) < 448 {
-        return false;
+    if read_full(input, &mut call)? < 448 {
+        return Ok(false);
     }
     let mut out = [0u8; 168];
     answer(&call, &mut out);
-    io::write_all(libc::STDOUT_FILENO, &out)
+    output.write_all(&out)?;
+    Ok(true)
 }
 
-fn main() {
-    let mut turns = u64::MAX;
-    while turns > 0 && turn() {
-        turns -= 1;
+fn main(rt: HostRuntime) -> io::Result<()> {
+    let mut input = rt.reader();
+    let mut output = io::writer(&rt);
+    for _ in 0..u64::MAX {
+        if !turn(&mut input, &mut output)? {
+            break;
+        }
     }
+    Ok(())
 }

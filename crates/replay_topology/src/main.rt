@@ -1,6 +1,7 @@
 // Replays recorded answers of the original Rust to the calls on topologies: records of 4,648 bytes on standard input, each a call, and for
 // each an answer record of 3,168 bytes on standard output. oracle/README.md says what a record holds and how the records are made.
 #![tactic(auto)]
+
 ghost use Rattle.std.specs.Prelude.{◌≡◌, ◌≤◌, length};
 
 use hybit_matrix::both_sides::{BuildAnswer, DualStatsAnswer};
@@ -10,6 +11,8 @@ use records::inner::{
     bits, count_at, count_within, digit, number_at, put_list, put_narrow, put_number, read_list,
     read_narrow, read_reals,
 };
+use std::io::{self, Read, Write};
+use streams::read_full;
 
 // Rows, columns and pairs of a side, as the record gives them.
 #[derive(Clone, Copy)]
@@ -589,19 +592,25 @@ fn answer(call: &[u8], out: &mut [u8])
     }
 }
 
-fn turn() -> bool {
+// Whether there was a whole record to answer.
+fn turn<R: Read, W: Write>(input: &mut R, output: &mut W) -> io::Result<bool> {
     let mut call = [0u8; 4648];
-    if io::read_full(libc::STDIN_FILENO, &mut call) < 4648 {
-        return false;
+    if read_full(input, &mut call)? < 4648 {
+        return Ok(false);
     }
     let mut out = [0u8; 3168];
     answer(&call, &mut out);
-    io::write_all(libc::STDOUT_FILENO, &out)
+    output.write_all(&out)?;
+    Ok(true)
 }
 
-fn main() {
-    let mut turns = u64::MAX;
-    while turns > 0 && turn() {
-        turns -= 1;
+fn main(rt: HostRuntime) -> io::Result<()> {
+    let mut input = rt.reader();
+    let mut output = io::writer(&rt);
+    for _ in 0..u64::MAX {
+        if !turn(&mut input, &mut output)? {
+            break;
+        }
     }
+    Ok(())
 }

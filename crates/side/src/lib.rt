@@ -1,6 +1,7 @@
 // One side of a topology: for each row the 64-bit words that hold at least one of its columns. Its definition as the side of a set of pairs,
 // its faults told apart, and the work on its rows. The calls of the API stand in the crates above.
 #![tactic(auto)]
+
 ghost use Rattle.std.specs.Prelude.{◌≡◌};
 ghost use Rattle.side.specs.Check.{fault_check};
 

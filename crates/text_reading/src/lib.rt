@@ -1,5 +1,6 @@
 // Numbers, lists of numbers and lines of a text: whether the bytes are one, and which. The work is in `inner`; nothing is assumed of the bytes.
 #![tactic(auto)]
+
 pub mod inner;
 
 // Whether the bytes are a number, and which; 0 where they are none.

@@ -1,6 +1,7 @@
 // One side of a topology, `AbtmTopology` of the Rust: its check, its statistics, building it from a matrix, and set operations on two sides.
 // A side is handed in as its two sizes, its three lists and its pair count.
 #![tactic(auto)]
+
 ghost use Rattle.std.specs.Prelude.{◌≡◌, ◌+◌, length};
 ghost use Rattle.csr32.specs.Matrix.{stored};
 ghost use Rattle.word.specs.Answers.{on};

@@ -1,9 +1,7 @@
 -- `text_writing::inner::decimal_length` meets its contract. The invariant: the digits counted, and those of what is left, are all. Assumes nothing.
-use mathlib.Core.Path.{◌≡◌, ap}
-use Prim.Native.Nat.{◌+◌, ◌<◌}
+use mathlib.Core.Path.{ap}
 use native.Mathlib.Omega.{arith}
 use lib.ListN.{length}
-use Rattle.text_writing.specs.Text.{decimal}
 use Rattle.text_writing.proofs.Digits.{decimal-one, decimal-most, length_more}
 use Rattle.text_writing.proofs.inner.decimal_length.Goals as goal
 

@@ -1,14 +1,13 @@
 -- `text_writing::inner::list_length` meets its contract. The invariant: the bytes of the first i numbers are counted. Assumes nothing.
 use mathlib.Core.Path.{◌≡◌, sym, ap, ◌∙◌}
-use mathlib.Core.Logic.{⊎_elim}
-use Prim.Native.Nat.{ℕ, ◌+◌, ◌-◌, ◌*◌, ◌≤◌, ◌<◌}
+use Prim.Native.Nat.{ℕ, ◌+◌, ◌*◌, ◌≤◌, ◌<◌}
 use native.Mathlib.Omega.{arith}
 use lib.ListN.{length, get_or, take}
 use lib.Seq.{take-length}
 use Rattle.text_writing.specs.Text.{decimal, numbers}
 use Rattle.text_writing.proofs.Digits.{decimal-most}
 use Rattle.text_writing.proofs.Lists.{numbers-none, numbers-first, length-next}
-use Rattle.text_writing.proofs.inner.list_length.Goals.{Joined-i-gt0}
+use Rattle.text_writing.proofs.inner.list_length.Goals.{Joined-i-gt0, then-i-gt0, else-i-gt0}
 use Rattle.text_writing.proofs.inner.list_length.Goals as goal
 
 -- with its comma, before its digits
@@ -17,17 +16,20 @@ comma-counted c =
     let xs = c.args.list.now in
     let l = c.loop-i in
     let in_list : l.i < length xs = c.loop-i-test.true in
-    ⊎_elim
-    (λ w. let e : c.if-i-gt0.total ≡ l.total + 1 = w.1 in
-    let more = length-next xs l.i (omega (arith, w.0.taken)) in_list in
-    (omega (arith, l.invariant.1), omega (arith, l.invariant.2)))
-    (λ w. let e : c.if-i-gt0.total ≡ l.total = w.1 in
-    let z : l.i ≡ 0 = omega (arith, w.0.left) in
-    let none : l.total ≡ 0 = omega (arith, l.invariant.2) in
-    let one : length (decimal (get_or xs l.i 0)) ≡ length (numbers (take (l.i + 1) xs)) =
-    ap (λ (k : ℕ). length (decimal (get_or xs k 0))) z ∙ ap length (sym (numbers-first xs (omega arith))) ∙ ap (λ (k : ℕ). length (numbers (take (k + 1) xs))) (sym z) in
-    (omega arith, omega arith))
-    c.if-i-gt0.branch
+    elim c.if-i-gt0.branch [
+      | then-i-gt0 w ↦
+          let more = length-next xs l.i (omega arith) in_list in
+          (omega arith, omega arith)
+      | else-i-gt0 w ↦
+          let e : c.if-i-gt0.total ≡ l.total = w.total-is in
+          let z : l.i ≡ 0 = omega arith in
+          let none : l.total ≡ 0 = omega (arith, l.invariant.2) in
+          let one : length (decimal (get_or xs l.i 0)) ≡ length (numbers (take (l.i + 1) xs)) =
+          ap (λ (k : ℕ). length (decimal (get_or xs k 0))) z
+          ∙ ap length (sym (numbers-first xs (omega arith)))
+          ∙ ap (λ (k : ℕ). length (numbers (take (k + 1) xs))) (sym z) in
+          (omega arith, omega arith)
+    ]
 
 pub loop-i-init : goal.loop-i-init
 loop-i-init c = (omega arith, ap length numbers-none, omega arith)

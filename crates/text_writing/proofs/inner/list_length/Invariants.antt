@@ -1,13 +1,8 @@
 -- `text_writing::inner::list_length` meets its contract. The invariant: the bytes of the first i numbers are counted. Assumes nothing.
-use mathlib.Core.Path.{◌≡◌, sym, ap, ◌∙◌}
-use mathlib.Core.Logic.{⊎_elim}
-use Prim.Native.Nat.{ℕ, ◌+◌, ◌-◌, ◌*◌, ◌≤◌, ◌<◌}
-use native.Mathlib.Omega.{arith}
-use lib.ListN.{length, get_or, take}
-use lib.Seq.{take-length}
-use Rattle.text_writing.specs.Text.{decimal, numbers}
-use Rattle.text_writing.proofs.Digits.{decimal-most}
-use Rattle.text_writing.proofs.Lists.{numbers-none, numbers-first, length-next}
+use mathlib.Core.Path.{◌≡◌}
+use Prim.Native.Nat.{◌-◌, ◌*◌, ◌≤◌}
+use lib.ListN.{length, take}
+use Rattle.text_writing.specs.Text.{numbers}
 use Rattle.text_writing.proofs.inner.list_length.Given as goal
 
 abbrev pub invariant-loop-i : goal.invariant-loop-i

@@ -1,14 +1,10 @@
 -- `text_writing::inner::put_decimal` meets its contract. The invariant: the digits behind those of what is left are put. Assumes nothing.
-use mathlib.Core.Path.{◌≡◌, refl, sym, ap, ◌∙◌}
-use mathlib.Core.List.{List, [], ◌∷◌, ◌++◌, append-nil, append_assoc}
-use Prim.Native.Nat.{ℕ, ◌+◌, ◌-◌, ◌/◌, ◌%◌, ◌^◌, ◌≤◌, ◌<◌}
-use native.Mathlib.Omega.{arith}
-use lib.ListN.{length, set, length-set, length-append}
+use mathlib.Core.Path.{◌≡◌}
+use mathlib.Core.List.{List, ◌++◌}
+use Prim.Native.Nat.{ℕ, ◌+◌, ◌<◌}
+use lib.ListN.{length}
 use Rattle.base.specs.Lists.{placed}
-use Rattle.base.proofs.Lists.{placed-none}
-use Rattle.text_writing.specs.Text.{digit, decimal}
-use Rattle.text_writing.proofs.Digits.{decimal-one, decimal-more, decimal-some, length_more}
-use Rattle.text_writing.proofs.Lists.{placed-ahead}
+use Rattle.text_writing.specs.Text.{decimal}
 use Rattle.text_writing.proofs.inner.put_decimal.Given as goal
 
 abbrev pub invariant-loop-left : goal.invariant-loop-left

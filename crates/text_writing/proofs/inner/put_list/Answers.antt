@@ -1,17 +1,15 @@
 -- `text_writing::inner::put_list` meets its contract. The invariant: the text of the first k numbers is put. Assumes nothing.
 use mathlib.Core.Path.{◌≡◌, refl, sym, ap, ap₂, ◌∙◌}
-use mathlib.Core.Logic.{⊎_elim}
 use mathlib.Core.List.{List, [], ◌∷◌, ◌++◌, append_assoc}
-use Prim.Native.Nat.{ℕ, ◌+◌, ◌-◌, ◌≤◌, ◌<◌}
+use Prim.Native.Nat.{ℕ, ◌+◌, ◌≤◌, ◌<◌}
 use native.Mathlib.Omega.{arith}
 use lib.ListN.{length, get_or, set, take, length-set, length-append}
 use lib.Seq.{take-length}
-use borrow.Author.Rules.{rules}
 use Rattle.base.specs.Lists.{placed}
 use Rattle.base.proofs.Lists.{placed-none, placed-next, placed-more}
 use Rattle.text_writing.specs.Text.{comma, decimal, numbers}
 use Rattle.text_writing.proofs.Lists.{numbers-none, numbers-first, numbers-next, numbers-part, length-next}
-use Rattle.text_writing.proofs.inner.put_list.Goals.{In-loop-k, Joined-k-gt0}
+use Rattle.text_writing.proofs.inner.put_list.Goals.{In-loop-k, Joined-k-gt0, then-k-gt0, else-k-gt0}
 use Rattle.text_writing.proofs.inner.put_list.Goals as goal
 
 -- what stands before number k: the numbers before it and its comma, if it has one
@@ -35,29 +33,36 @@ front c =
     let o = s.out.now in
     let text = numbers (take l.k xs) in
     let in_list : l.k < length xs = c.loop-k-test.true in
-    ⊎_elim
-    (λ w. let here : c.if-k-gt0.place ≡ l.place + 1 = w.2 in
-    let next = length-next xs l.k (omega (arith, w.0.taken)) in_list in
-    let n : l.place ≡ at + length text = l.invariant.2 in
-    record {
-      text = text ++ (comma ∷ []);
-      whole = numbers-next xs l.k (omega (arith, w.0.taken)) in_list ∙ sym (append_assoc text (comma ∷ []) (decimal (get_or xs l.k 0)));
-      long = ap length w.1 ∙ length-set l.out l.place comma ∙ l.invariant.1;
-      stands = omega (arith, length-append text (comma ∷ []));
-      put = w.1 ∙ ap₂ (λ (x : List ℕ) (i : ℕ). set x i comma) l.invariant.3 n ∙ placed-next at text o comma 0 (omega (arith, room (goal.at.Joined-k-gt0 c).In-loop-k));
-    })
-    (λ w. let z : l.k ≡ 0 = omega (arith, w.0.left) in
-    let first : numbers (take (l.k + 1) xs) ≡ decimal (get_or xs l.k 0) =
-    ap (λ (k : ℕ). numbers (take (k + 1) xs)) z ∙ numbers-first xs (omega arith) ∙ ap (λ (k : ℕ). decimal (get_or xs k 0)) (sym z) in
-    let none : [] ≡ text = numbers-none ∙ ap (λ (k : ℕ). numbers (take k xs)) (sym z) in
-    record {
-      text = text;
-      whole = first ∙ ap (λ (x : List ℕ). x ++ decimal (get_or xs l.k 0)) none;
-      long = ap length w.1 ∙ l.invariant.1;
-      stands = w.2 ∙ l.invariant.2;
-      put = w.1 ∙ l.invariant.3;
-    })
-    c.if-k-gt0.branch
+    elim c.if-k-gt0.branch [
+      | then-k-gt0 w ↦
+          let here : c.if-k-gt0.place ≡ l.place + 1 = w.place-is in
+          let next = length-next xs l.k (omega arith) in_list in
+          let n : l.place ≡ at + length text = l.invariant.2 in
+          record {
+            text = text ++ (comma ∷ []);
+            whole = numbers-next xs l.k (omega arith) in_list ∙ sym (append_assoc text (comma ∷ []) (decimal (get_or xs l.k 0)));
+            long = ap length w.out-is ∙ length-set l.out l.place comma ∙ l.invariant.1;
+            stands = omega (arith, length-append text (comma ∷ []));
+            put =
+                w.out-is
+                ∙ ap₂ (λ (x : List ℕ) (i : ℕ). set x i comma) l.invariant.3 n
+                ∙ placed-next at text o comma 0 (omega (arith, room (goal.at.Joined-k-gt0 c).In-loop-k));
+          }
+      | else-k-gt0 w ↦
+          let z : l.k ≡ 0 = omega arith in
+          let first : numbers (take (l.k + 1) xs) ≡ decimal (get_or xs l.k 0) =
+          ap (λ (k : ℕ). numbers (take (k + 1) xs)) z
+          ∙ numbers-first xs (omega arith)
+          ∙ ap (λ (k : ℕ). decimal (get_or xs k 0)) (sym z) in
+          let none : [] ≡ text = numbers-none ∙ ap (λ (k : ℕ). numbers (take k xs)) (sym z) in
+          record {
+            text = text;
+            whole = first ∙ ap (λ (x : List ℕ). x ++ decimal (get_or xs l.k 0)) none;
+            long = ap length w.out-is ∙ l.invariant.1;
+            stands = w.place-is ∙ l.invariant.2;
+            put = w.out-is ∙ l.invariant.3;
+          }
+    ]
 
 pub loop-k-init : goal.loop-k-init
 loop-k-init c =

@@ -1,0 +1,10 @@
+-- `hybit_matrix::hybit_mask_intersect_assign` meets its contract. Assumes nothing.
+use mathlib.Core.Path.{ap, ◌∙◌}
+use Rattle.hybit_matrix.specs.Flat.{flat_of_checked}
+use Rattle.hybit_matrix.proofs.hybit_mask_intersect_assign.Goals as goal
+
+pub returns : goal.returns
+returns c = record {
+  value = c.flat_checked.ensures ∙ ap flat_of_checked c.intersect_assign.ensures.value;
+  words_after = c.intersect_assign.ensures.words_after;
+}

@@ -1,0 +1,10 @@
+-- `hybit_matrix::hybit_mask_new` meets its contract. Assumes nothing.
+use mathlib.Core.Path.{ap, ◌∙◌}
+use Rattle.hybit_matrix.specs.Flat.{flat_of_checked}
+use Rattle.hybit_matrix.proofs.hybit_mask_new.Goals as goal
+
+pub returns : goal.returns
+returns c = record {
+  value = c.flat_checked.ensures ∙ ap flat_of_checked c.new.ensures.value;
+  out_after = c.new.ensures.out_after;
+}

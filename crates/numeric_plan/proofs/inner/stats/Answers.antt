@@ -1,0 +1,7 @@
+-- `numeric_plan::inner::stats` meets its contract. Assumes nothing.
+use borrow.Author.Rules.{rules}
+use mathlib.Core.Path.{refl}
+use Rattle.numeric_plan.proofs.inner.stats.Goals as goal
+
+pub returns : goal.returns
+returns c = refl

@@ -1,0 +1,32 @@
+-- `pattern::inner::check_region` meets its contract. Assumes nothing.
+use mathlib.Core.Path.{sym, ◌∙◌}
+use Prim.Native.Nat.{◌≤◌}
+use native.Mathlib.Omega.{arith}
+use borrow.Author.Tests.{eq-eqb, ne_eqb}
+use Rattle.base.specs.Checks.{side_limit}
+use Rattle.base.proofs.Checks.{pass, stop, group-pass, group-stop}
+use Rattle.dual_topology.proofs.Accepted.{accepted-topology}
+use Rattle.pattern.specs.Pattern.{region_check}
+use Rattle.pattern.proofs.inner.check_region.Goals.{In-Accepted}
+use Rattle.pattern.proofs.inner.check_region.Goals as goal
+
+-- an accepted topology has few rows
+few : (c : In-Accepted) → c.args.nrows ≤ side_limit
+few c =
+    (accepted-topology _ _ _ _ _ _ _ _ _ _ _ _ (λ k. omega (arith, c.type_inv.row_masks k)) (λ k. omega (arith, c.type_inv.column_masks k))
+    (sym c.validate.ensures ∙ c.in-Accepted.is)).topology.rows.shape.few_rows
+
+pub returns-then-nrows-ncols : goal.returns-then-nrows-ncols
+unfolding region_check
+returns-then-nrows-ncols c = group-pass _ _ _ (sym c.validate.ensures ∙ c.in-Accepted.is) (stop _ _ _ _ (ne_eqb _ _ c.if-nrows-ncols.true) c.refused.ensures)
+
+pub check_length-requires : goal.check_length-requires
+check_length-requires c = few (goal.at.check_length-requires c).In-Accepted
+
+pub returns-in-Refused : goal.returns-in-Refused
+unfolding region_check
+returns-in-Refused c = group-stop _ _ _ (sym c.validate.ensures ∙ c.in-Refused.is)
+
+pub returns-else-nrows-ncols : goal.returns-else-nrows-ncols
+unfolding region_check
+returns-else-nrows-ncols c = group-pass _ _ _ (sym c.validate.ensures ∙ c.in-Accepted.is) (pass _ _ _ _ (eq-eqb _ _ c.if-nrows-ncols.false) c.check_length.ensures)

@@ -1,0 +1,13 @@
+-- `pattern::inner::write` meets its contract: either table has a place for each word. Assumes nothing.
+use native.Mathlib.Omega.{arith}
+use Rattle.pattern.proofs.inner.write.Goals as goal
+
+pub write_ranked-requires : goal.write_ranked-requires
+write_ranked-requires c =
+    let q = c.requires in
+    (q.0, q.1, q.2, q.3, q.4, omega arith)
+
+pub write_ranked-requires-2 : goal.write_ranked-requires-2
+write_ranked-requires-2 c =
+    let q = c.requires in
+    (q.0, q.1, q.2, q.3, q.4, omega (arith, q.1.short))
