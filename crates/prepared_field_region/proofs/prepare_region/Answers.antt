@@ -1,0 +1,173 @@
+-- `prepared_field_region::prepare_region` meets its contract. Assumes nothing.
+use borrow.Author.Rules.{rules}
+use mathlib.Core.Path.{◌≡◌, sym, ap, ◌∙◌}
+use native.Mathlib.Omega.{arith}
+use lib.ListN.{length}
+use Rattle.base.specs.declared.Checked.{Checked}
+use Rattle.base.proofs.Checks.{on-accepted, on-refused, kept, group-pass, group-stop}
+use Rattle.csr32.specs.Matrix.{matrix_check}
+use Rattle.dof_layout.specs.Answers.{square_check}
+use Rattle.prepared_field_region.specs.Prepared.{prepare_room, prepare_inputs, prepare_check}
+use Rattle.cutting.specs.Steps.{Inputs}
+use Rattle.prepared_field_region.specs.declared.RegionPrepared.{RegionPrepared}
+use Rattle.prepared_field_region.proofs.Accepted.{accepted-inputs, accepted-room}
+use Rattle.prepared_field_region.proofs.prepare_region.Goals.{In-Accepted, In-Accepted-check_room, Start}
+use Rattle.prepared_field_region.proofs.prepare_region.Goals as goal
+
+-- the checks, and all but 25
+abbrev inputs : Start → Checked
+inputs s = prepare_inputs (matrix_check s.args.nrows s.args.ncols s.args.row_ptr.now s.args.col_idx.now s.args.values.now) (square_check s.args.entity_kinds.now s.args.entity_ids.now s.args.field_ids.now s.args.components.now s.args.offsets.now s.args.nrows s.args.ncols) s.args.nrows s.args.len s.args.words.now
+
+abbrev room : Start → Checked
+room s = prepare_room s.args.nrows s.args.ncols (length s.args.col_idx.now) (length s.args.row_word_ptr.now) (length s.args.row_word_indices.now) (length s.args.row_masks.now) (length s.args.column_word_ptr.now) (length s.args.column_word_indices.now) (length s.args.column_masks.now) (length s.args.starts.now) (length s.args.order.now) (length s.args.region.now) (length s.args.frontier.now) (length s.args.scratch.now) (length s.args.global_nodes.now) (length s.args.local_row_ptr.now) (length s.args.local_col_idx.now) (length s.args.source_ptr.now) (length s.args.source_indices.now)
+
+abbrev whole : Start → Checked
+whole s = prepare_check (inputs s) (room s)
+
+-- in this arm the inputs are accepted
+module _ (c : In-Accepted) where
+  abbrev s : Start
+  s = (goal.at.In-Accepted c).Start
+
+  passes : inputs s ≡ Checked.Accepted
+  passes = sym c.check_inputs.ensures ∙ c.in-Accepted.is
+
+  good : Inputs s.args.nrows s.args.row_ptr.now s.args.col_idx.now s.args.components.now s.args.offsets.now s.args.words.now × (s.args.ncols ≡ s.args.nrows)
+  good = accepted-inputs s.args.nrows s.args.ncols s.args.row_ptr.now s.args.col_idx.now s.args.values.now s.args.entity_kinds.now s.args.entity_ids.now s.args.field_ids.now s.args.components.now s.args.offsets.now s.args.len s.args.words.now (λ k. omega (arith, c.type_inv.words k)) passes
+
+-- and here the lists reach their needed lengths
+module _ (c : In-Accepted-check_room) where
+  abbrev s2 : Start
+  s2 = (goal.at.In-Accepted-check_room c).Start
+
+  enough : room s2 ≡ Checked.Accepted
+  enough = sym c.check_room.ensures ∙ c.in-Accepted-check_room.is
+
+  all : whole s2 ≡ Checked.Accepted
+  unfolding prepare_check
+  all = sym (group-pass _ _ _ (passes (goal.at.In-Accepted-check_room c).In-Accepted) (sym enough))
+
+pub check_room-requires : goal.check_room-requires
+check_room-requires c = (good ((goal.at.check_room-requires c).In-Accepted)).0.matrix.few_rows
+
+pub prepare-requires : goal.prepare-requires
+prepare-requires c =
+    (good (goal.at.prepare-requires c).In-Accepted, accepted-room c.args.nrows c.args.ncols (length c.args.col_idx.now) c.args.row_word_ptr.now c.args.row_word_indices.now c.args.row_masks.now c.args.column_word_ptr.now c.args.column_word_indices.now c.args.column_masks.now c.args.starts.now c.args.order.now c.args.region.now c.args.frontier.now c.args.scratch.now c.args.global_nodes.now c.args.local_row_ptr.now c.args.local_col_idx.now c.args.source_ptr.now c.args.source_indices.now (enough (goal.at.prepare-requires c).In-Accepted-check_room))
+
+pub returns-in-Refused : goal.returns-in-Refused
+unfolding prepare_check
+returns-in-Refused c =
+    let e : whole (goal.at.returns-in-Refused c).Start ≡ Checked.Refused _ = sym (group-stop _ (room (goal.at.returns-in-Refused c).Start) _ (sym c.check_inputs.ensures ∙ c.in-Refused.is)) in record {
+      value = on-refused _ _ _ RegionPrepared.Refused e;
+      row_pointers = kept _ _ _ _ e;
+      row_words = kept _ _ _ _ e;
+      row_masked = kept _ _ _ _ e;
+      column_pointers = kept _ _ _ _ e;
+      column_words = kept _ _ _ _ e;
+      column_masked = kept _ _ _ _ e;
+      scratch_starts = kept _ _ _ _ e;
+      scratch_order = kept _ _ _ _ e;
+      inside = kept _ _ _ _ e;
+      edge = kept _ _ _ _ e;
+      spent = kept _ _ _ _ e;
+      members = kept _ _ _ _ e;
+      pointers = kept _ _ _ _ e;
+      columns = kept _ _ _ _ e;
+      source_pointers = kept _ _ _ _ e;
+      sources = kept _ _ _ _ e;
+    }
+
+pub returns-in-Refused-check_room : goal.returns-in-Refused-check_room
+unfolding prepare_check
+returns-in-Refused-check_room c =
+    let no_room : room (goal.at.returns-in-Refused-check_room c).Start ≡ Checked.Refused _ = sym c.check_room.ensures ∙ c.in-Refused-check_room.is in
+    let e : whole (goal.at.returns-in-Refused-check_room c).Start ≡ Checked.Refused _ = sym (group-pass _ _ _ (passes (goal.at.returns-in-Refused-check_room c).In-Accepted) (sym no_room)) in record {
+      value = on-refused _ _ _ RegionPrepared.Refused e;
+      row_pointers = kept _ _ _ _ e;
+      row_words = kept _ _ _ _ e;
+      row_masked = kept _ _ _ _ e;
+      column_pointers = kept _ _ _ _ e;
+      column_words = kept _ _ _ _ e;
+      column_masked = kept _ _ _ _ e;
+      scratch_starts = kept _ _ _ _ e;
+      scratch_order = kept _ _ _ _ e;
+      inside = kept _ _ _ _ e;
+      edge = kept _ _ _ _ e;
+      spent = kept _ _ _ _ e;
+      members = kept _ _ _ _ e;
+      pointers = kept _ _ _ _ e;
+      columns = kept _ _ _ _ e;
+      source_pointers = kept _ _ _ _ e;
+      sources = kept _ _ _ _ e;
+    }
+
+pub shape_of-row_word_ptr : goal.shape_of-row_word_ptr
+shape_of-row_word_ptr c = c.prepare.auto.row_word_ptr
+
+pub shape_of-row_word_indices : goal.shape_of-row_word_indices
+shape_of-row_word_indices c = c.prepare.auto.row_word_indices
+
+pub shape_of-row_masks : goal.shape_of-row_masks
+shape_of-row_masks c = c.prepare.auto.row_masks
+
+pub shape_of-column_word_ptr : goal.shape_of-column_word_ptr
+shape_of-column_word_ptr c = c.prepare.auto.column_word_ptr
+
+pub shape_of-column_word_indices : goal.shape_of-column_word_indices
+shape_of-column_word_indices c = c.prepare.auto.column_word_indices
+
+pub shape_of-column_masks : goal.shape_of-column_masks
+shape_of-column_masks c = c.prepare.auto.column_masks
+
+pub shape_of-starts : goal.shape_of-starts
+shape_of-starts c = c.prepare.auto.starts
+
+pub shape_of-order : goal.shape_of-order
+shape_of-order c = c.prepare.auto.order
+
+pub shape_of-region : goal.shape_of-region
+shape_of-region c = c.prepare.auto.region
+
+pub shape_of-frontier : goal.shape_of-frontier
+shape_of-frontier c = c.prepare.auto.frontier
+
+pub shape_of-scratch : goal.shape_of-scratch
+shape_of-scratch c = c.prepare.auto.scratch
+
+pub shape_of-global_nodes : goal.shape_of-global_nodes
+shape_of-global_nodes c = c.prepare.auto.global_nodes
+
+pub shape_of-local_row_ptr : goal.shape_of-local_row_ptr
+shape_of-local_row_ptr c = c.prepare.auto.local_row_ptr
+
+pub shape_of-local_col_idx : goal.shape_of-local_col_idx
+shape_of-local_col_idx c = c.prepare.auto.local_col_idx
+
+pub shape_of-source_ptr : goal.shape_of-source_ptr
+shape_of-source_ptr c = c.prepare.auto.source_ptr
+
+pub shape_of-source_indices : goal.shape_of-source_indices
+shape_of-source_indices c = c.prepare.auto.source_indices
+
+pub returns-in-Accepted-check_room : goal.returns-in-Accepted-check_room
+returns-in-Accepted-check_room c =
+    let e = all (goal.at.returns-in-Accepted-check_room c).In-Accepted-check_room in
+    let w = c.prepare.ensures in record {
+      value = on-accepted _ _ _ _ e (ap RegionPrepared.Prepared w.value);
+      row_pointers = on-accepted _ _ _ _ e w.row_pointers;
+      row_words = on-accepted _ _ _ _ e w.row_words;
+      row_masked = on-accepted _ _ _ _ e w.row_masked;
+      column_pointers = on-accepted _ _ _ _ e w.column_pointers;
+      column_words = on-accepted _ _ _ _ e w.column_words;
+      column_masked = on-accepted _ _ _ _ e w.column_masked;
+      scratch_starts = on-accepted _ _ _ _ e w.scratch_starts;
+      scratch_order = on-accepted _ _ _ _ e w.scratch_order;
+      inside = on-accepted _ _ _ _ e w.inside;
+      edge = on-accepted _ _ _ _ e w.edge;
+      spent = on-accepted _ _ _ _ e w.spent;
+      members = on-accepted _ _ _ _ e w.members;
+      pointers = on-accepted _ _ _ _ e w.pointers;
+      columns = on-accepted _ _ _ _ e w.columns;
+      source_pointers = on-accepted _ _ _ _ e w.source_pointers;
+      sources = on-accepted _ _ _ _ e w.sources;
+    }

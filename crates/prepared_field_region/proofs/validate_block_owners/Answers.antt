@@ -1,0 +1,44 @@
+-- `prepared_field_region::validate_block_owners` meets its contract. Assumes nothing.
+use borrow.Author.Rules.{rules}
+use mathlib.Core.Path.{◌≡◌, refl, sym, ◌∙◌}
+use Rattle.base.specs.declared.Checked.{Checked}
+use Rattle.base.specs.declared.Counted.{Counted}
+use Rattle.base.proofs.Checks.{on-accepted, on-refused, kept}
+use Rattle.csr32.specs.Matrix.{matrix_check}
+use Rattle.dof_layout.specs.Answers.{square_check}
+use Rattle.dof_layout.proofs.Layouts.{none-empty}
+use Rattle.field_region.specs.Owners.{owners_check}
+use Rattle.prepared_field_region.specs.Prepared.{block_owners_check}
+use Rattle.prepared_field_region.proofs.Accepted.{accepted-block-owners}
+use Rattle.prepared_field_region.proofs.validate_block_owners.Goals.{After-check_owners, In-Accepted, Start}
+use Rattle.prepared_field_region.proofs.validate_block_owners.Goals as goal
+
+abbrev check : Start → Checked
+check s = block_owners_check (matrix_check s.args.nrows s.args.ncols s.args.row_ptr.now s.args.col_idx.now s.args.values.now) (square_check s.args.entity_kinds.now s.args.entity_ids.now s.args.field_ids.now s.args.components.now s.args.offsets.now s.args.nrows s.args.ncols) (owners_check s.args.entity_kinds.now s.args.entity_ids.now s.args.field_ids.now s.args.components.now s.args.offsets.now s.args.dof_owners.now s.args.ranks s.args.out.now)
+
+-- what the check of the owners past the layout says
+told : (c : After-check_owners) → check (goal.at.After-check_owners c).Start ≡ c.check_owners.result
+unfolding owners_check
+told c = sym c.check_owners.ensures
+
+-- in this arm the checks accept
+ok : (c : In-Accepted) → check (goal.at.In-Accepted c).Start ≡ Checked.Accepted
+ok c = told (goal.at.In-Accepted c).After-check_owners ∙ c.in-Accepted.is
+
+pub write_owners-requires : goal.write_owners-requires
+write_owners-requires c =
+    let a = accepted-block-owners _ _ _ _ _ _ _ _ _ _ (ok (goal.at.write_owners-requires c).In-Accepted) in
+    (a.0.running, a.0.blocks.short, none-empty _ _ _ _ a.0.blocks, a.1, a.2)
+
+pub returns-in-Refused : goal.returns-in-Refused
+returns-in-Refused c =
+    let e = told (goal.at.returns-in-Refused c).After-check_owners ∙ c.in-Refused.is in record {
+      value = on-refused _ _ _ Counted.Refused e;
+      owned = kept _ _ _ _ e;
+    }
+
+pub returns-in-Accepted : goal.returns-in-Accepted
+returns-in-Accepted c = record {
+      value = on-accepted _ _ _ _ (ok (goal.at.returns-in-Accepted c).In-Accepted) refl;
+      owned = on-accepted _ _ _ _ (ok (goal.at.returns-in-Accepted c).In-Accepted) c.write_owners.ensures;
+    }
