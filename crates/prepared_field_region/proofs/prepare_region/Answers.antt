@@ -52,7 +52,11 @@ check_room-requires c = (good ((goal.at.check_room-requires c).In-Accepted)).0.m
 
 pub prepare-requires : goal.prepare-requires
 prepare-requires c =
-    (good (goal.at.prepare-requires c).In-Accepted, accepted-room c.args.nrows c.args.ncols (length c.args.col_idx.now) c.args.row_word_ptr.now c.args.row_word_indices.now c.args.row_masks.now c.args.column_word_ptr.now c.args.column_word_indices.now c.args.column_masks.now c.args.starts.now c.args.order.now c.args.region.now c.args.frontier.now c.args.scratch.now c.args.global_nodes.now c.args.local_row_ptr.now c.args.local_col_idx.now c.args.source_ptr.now c.args.source_indices.now (enough (goal.at.prepare-requires c).In-Accepted-check_room))
+    let p = accepted-room c.args.nrows c.args.ncols (length c.args.col_idx.now) c.args.row_word_ptr.now c.args.row_word_indices.now c.args.row_masks.now c.args.column_word_ptr.now c.args.column_word_indices.now c.args.column_masks.now c.args.starts.now c.args.order.now c.args.region.now c.args.frontier.now c.args.scratch.now c.args.global_nodes.now c.args.local_row_ptr.now c.args.local_col_idx.now c.args.source_ptr.now c.args.source_indices.now (enough (goal.at.prepare-requires c).In-Accepted-check_room) in record {
+      inputs = good (goal.at.prepare-requires c).In-Accepted;
+      building = p.0;
+      room = p.1;
+    }
 
 pub returns-in-Refused : goal.returns-in-Refused
 unfolding prepare_check

@@ -45,7 +45,7 @@ module _ (c : After-build-counts) where
   column-masks-own = column_masks t.args.nrows t.args.ncols t.args.row_ptr.now t.args.col_idx.now matrix c.build-counts.result c.build-counts.ensures.value t.args.column_masks.now c.build-counts.new.column_masks c.build-counts.ensures.column_masked
 
 pub build-counts-requires : goal.build-counts-requires
-build-counts-requires c = (matrix-of (goal.at.build-counts-requires c).Start, c.requires.building)
+build-counts-requires c = record { matrix = matrix-of (goal.at.build-counts-requires c).Start; room = c.requires.building }
 
 pub stats-topology-requires : goal.stats-topology-requires
 stats-topology-requires c =
@@ -96,7 +96,11 @@ slice_bounds-cut-end-12 c = (column-masks-own (goal.at.slice_bounds-cut-end-12 c
 
 pub cut-whole-requires : goal.cut-whole-requires
 cut-whole-requires c =
-    (c.requires.inputs.0, (parts_are _ _ _ _ (matrix-of (goal.at.cut-whole-requires c).Start) c.build-counts.result c.build-counts.ensures.value c.requires.inputs.1 _ _ _ _ _ _ (row-pointers-own (goal.at.cut-whole-requires c).After-build-counts).same (row-words-own (goal.at.cut-whole-requires c).After-build-counts).same (row-masks-own (goal.at.cut-whole-requires c).After-build-counts).same (column-pointers-own (goal.at.cut-whole-requires c).After-build-counts).same (column-words-own (goal.at.cut-whole-requires c).After-build-counts).same (column-masks-own (goal.at.cut-whole-requires c).After-build-counts).same, c.requires.room))
+    record {
+      inputs = c.requires.inputs.0;
+      topology = parts_are _ _ _ _ (matrix-of (goal.at.cut-whole-requires c).Start) c.build-counts.result c.build-counts.ensures.value c.requires.inputs.1 _ _ _ _ _ _ (row-pointers-own (goal.at.cut-whole-requires c).After-build-counts).same (row-words-own (goal.at.cut-whole-requires c).After-build-counts).same (row-masks-own (goal.at.cut-whole-requires c).After-build-counts).same (column-pointers-own (goal.at.cut-whole-requires c).After-build-counts).same (column-words-own (goal.at.cut-whole-requires c).After-build-counts).same (column-masks-own (goal.at.cut-whole-requires c).After-build-counts).same;
+      room = c.requires.room;
+    }
 
 pub shape_of-row_word_ptr : goal.shape_of-row_word_ptr
 shape_of-row_word_ptr c = c.build-counts.auto.row_word_ptr
