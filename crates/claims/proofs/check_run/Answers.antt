@@ -1,5 +1,4 @@
 -- `claims::check_run` meets its contract. Assumes nothing.
-use borrow.Author.Rules.{rules}
 use mathlib.Core.Path.{◌≡◌, sym, ◌∙◌}
 use native.Mathlib.Omega.{arith}
 use Rattle.base.specs.declared.Checked.{Checked}

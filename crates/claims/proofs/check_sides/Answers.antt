@@ -1,5 +1,4 @@
 -- `claims::check_sides` meets its contract. Assumes nothing.
-use borrow.Author.Rules.{rules}
 use mathlib.Core.Path.{◌≡◌, refl, sym, ◌∙◌}
 use borrow.Author.Tests.{eq-eqb, ne_eqb}
 use Rattle.base.specs.declared.Checked.{Checked}

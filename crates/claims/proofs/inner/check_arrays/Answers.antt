@@ -1,5 +1,4 @@
 -- `claims::inner::check_arrays` meets its contract. Assumes nothing.
-use borrow.Author.Rules.{rules}
 use mathlib.Core.Path.{refl, sym, ◌∙◌}
 use borrow.Author.Tests.{eq-eqb, ne_eqb}
 use Rattle.base.proofs.Checks.{group-pass, group-stop}

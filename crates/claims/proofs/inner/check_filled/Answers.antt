@@ -1,5 +1,4 @@
 -- `claims::inner::check_filled` meets its contract: a mask that holds all nodes binds as `pairs_check` says. Assumes nothing.
-use borrow.Author.Rules.{rules}
 use mathlib.Core.Path.{◌≡◌, sym, ◌∙◌}
 use mathlib.Core.Bool.{Bool}
 use Prim.Native.Nat.{ℕ}

@@ -1,5 +1,4 @@
 -- `claims::inner::check_pairs` meets its contract. Assumes nothing.
-use borrow.Author.Rules.{rules}
 use Prim.Native.Nat.{◌-◌}
 use native.Mathlib.Omega.{arith}
 use Rattle.mask.proofs.Masks.{zeros-empty}

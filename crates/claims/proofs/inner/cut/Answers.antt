@@ -1,5 +1,4 @@
 -- `claims::inner::cut` meets its contract. Assumes nothing.
-use borrow.Author.Rules.{rules}
 use mathlib.Core.Path.{ap, ◌∙◌}
 use Rattle.claims.specs.Demand.{System, Planned}
 use Rattle.claims.specs.Cutting.{system_of}

@@ -1,5 +1,4 @@
 -- `claims::inner::finish` meets its contract. Assumes nothing.
-use borrow.Author.Rules.{rules}
 use mathlib.Core.Path.{ap, ◌∙◌}
 use Rattle.claims.specs.declared.RunAnswer.{RunAnswer}
 use Rattle.growths.proofs.Growing.{grown-none, grown-some}

@@ -1,5 +1,4 @@
 -- `claims::inner::gather_own` meets its contract. Assumes nothing.
-use borrow.Author.Rules.{rules}
 use mathlib.Core.Path.{sym}
 use lib.Seq.{length-take-le}
 use Rattle.claims.proofs.inner.gather_own.Goals as goal
