@@ -1,6 +1,6 @@
 -- The region that a list of growths has come to, its pattern, its plan and its gathered values. Assumes nothing.
 use mathlib.Core.Path.{◌≡◌, refl, sym, ap, ap₂, ◌∙◌, subst}
-use mathlib.Core.Bool.{Bool, true, false, not, cond, ◌&&◌}
+use mathlib.Core.Bool.{Bool, true, false, cond}
 use mathlib.Core.List.{List, map}
 use mathlib.Core.Logic.{◌↔◌}
 use Prim.Native.Nat.{ℕ, ◌+◌, ◌≤◌, ◌<◌}
@@ -12,11 +12,10 @@ use lib.ListN.{length, get_or, take, drop}
 use lib.Seq.{take_at}
 use Rattle.base.specs.Checks.{must, ◌then◌, leaves, entry_limit}
 use Rattle.base.specs.Lists.{over}
-use Rattle.base.specs.Sets.{any_below, count_below}
+use Rattle.base.specs.Sets.{count_below}
 use Rattle.base.specs.declared.Checked.{Checked}
-use Rattle.base.proofs.Bools.{and_l, and_r}
 use Rattle.base.proofs.Checks.{then_next, checks-all, pass, last-pass, length-pass}
-use Rattle.base.proofs.Sets.{any_none, members-at, count-members}
+use Rattle.base.proofs.Sets.{members-at, count-members}
 use Rattle.csr32.specs.Matrix.{IsMatrix}
 use Rattle.csr32.proofs.Matrix.{accepted}
 use Rattle.mask.specs.Mask.{in_mask, length_check}

@@ -9,7 +9,7 @@ use Rattle.claims.specs.declared.Cut.{Cut}
 
 -- a system from its lists
 abbrev pub system_of : ℕ → List ℕ → List ℕ → List Float → List ℕ → List ℕ → List ℕ → ℕ → List ℕ → List ℕ → List ℕ → ℕ → ℕ → List ℕ → System
-system_of side row_ptr col_idx values row_word_ptr row_word_indices masks_of_row row_pairs column_word_ptr column_word_indices column_masks column_pairs len seeds =
+system_of side row_ptr col_idx values row_word_ptr row_word_indices row_masks row_pairs column_word_ptr column_word_indices column_masks column_pairs len seeds =
     record {
       side = side;
       row_ptr = row_ptr;

@@ -1,6 +1,7 @@
 // Demand 3 as one theorem over the definitions that the public promises cite, document 01's table of worked lines, and functions that run what the
 // theorem speaks of: a list of growths, then pattern, plan and gather on the region that it comes to.
 #![tactic(auto)]
+
 ghost use Rattle.std.specs.Prelude.{◌≡◌};
 ghost use Rattle.base.specs.Checks.{leaves};
 ghost use Rattle.csr32.specs.Matrix.{matrix_check, stored};

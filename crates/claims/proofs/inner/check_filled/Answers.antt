@@ -1,0 +1,53 @@
+-- `claims::inner::check_filled` meets its contract: a mask that holds all nodes binds as `pairs_check` says. Assumes nothing.
+use mathlib.Core.Path.{◌≡◌, sym, ◌∙◌}
+use mathlib.Core.Bool.{Bool}
+use Prim.Native.Nat.{ℕ}
+use native.Mathlib.Nat.{le_refl}
+use Rattle.base.specs.declared.Checked.{Checked}
+use Rattle.mask.specs.Mask.{in_mask}
+use Rattle.mask.proofs.Masks.{is-of}
+use Rattle.csr32.specs.Matrix.{stored}
+use Rattle.side.specs.Side.{side_holds}
+use Rattle.binding.specs.Binding.{binding_check}
+use Rattle.binding.specs.Steps.{counts_of}
+use Rattle.binding.specs.declared.Counts.{Counts}
+use Rattle.binding.proofs.Answers.{bound-passes, refused-stops}
+use Rattle.claims.specs.Run.{pairs_check}
+use Rattle.claims.proofs.Checking.{all-mask, all-pairs}
+use Rattle.claims.proofs.inner.check_filled.Goals.{After-bind, Start}
+use Rattle.claims.proofs.inner.check_filled.Goals as goal
+
+-- the checks that the binding answers, and what it counts where they pass
+module _ (c : After-bind) where
+  abbrev s : Start
+  s = (goal.at.After-bind c).Start
+
+  abbrev pairs : ℕ → ℕ → Bool
+  pairs = side_holds s.args.row_word_ptr.now s.args.row_word_indices.now s.args.row_masks.now
+
+  abbrev entries : ℕ → ℕ → Bool
+  entries = stored s.args.row_ptr.now s.args.col_idx.now
+
+  abbrev region : ℕ → Bool
+  region = in_mask c.add_range.new.words
+
+  abbrev check : Checked
+  check = binding_check s.args.n region pairs entries
+
+  abbrev counts : Counts
+  counts = counts_of s.args.n region pairs s.args.row_ptr.now s.args.col_idx.now
+
+  all-rows : check ≡ pairs_check s.args.n pairs entries
+  all-rows = all-pairs s.args.n s.args.all.now _ c.add_range.ensures pairs entries
+
+pub add_range-requires : goal.add_range-requires
+add_range-requires c = (is-of _ _ _ c.requires.0.shape.few_rows c.requires.2, le_refl _)
+
+pub bind-requires : goal.bind-requires
+bind-requires c = (c.requires.0, c.requires.1, all-mask _ _ _ c.add_range.ensures c.requires.0.shape.few_rows)
+
+pub returns-in-Refused : goal.returns-in-Refused
+returns-in-Refused c = sym (refused-stops (check (goal.at.returns-in-Refused c).After-bind) (counts (goal.at.returns-in-Refused c).After-bind) c.in-Refused.r (sym c.in-Refused.is ∙ c.bind.ensures)) ∙ all-rows (goal.at.returns-in-Refused c).After-bind
+
+pub returns-in-Bound : goal.returns-in-Bound
+returns-in-Bound c = sym (bound-passes (check (goal.at.returns-in-Bound c).After-bind) (counts (goal.at.returns-in-Bound c).After-bind) c.in-Bound.field-0 (sym c.in-Bound.is ∙ c.bind.ensures)).0 ∙ all-rows (goal.at.returns-in-Bound c).After-bind
