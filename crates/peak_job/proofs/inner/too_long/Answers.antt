@@ -1,5 +1,5 @@
 -- `peak_job::inner::too_long` meets its contract. Assumes nothing.
-use mathlib.Core.Path.{◌≡◌}
+use mathlib.Core.Path.{◌≡◌, refl}
 use mathlib.Core.Bool.{Bool, true, false, cond, ◌&&◌}
 use Prim.Native.Nat.{ℕ}
 use native.Mathlib.Omega.{arith}
@@ -11,14 +11,14 @@ pub returns-then-job-gt256 : goal.returns-then-job-gt256
 returns-then-job-gt256 c =
     let r = c.args.job in
     let p1 : leb r.size 256 ≡ false = lt-leb r.size 256 (omega (arith, c.if-job-gt256.true)) in
-    cc p1
+    rw p1 refl
 
 pub returns-then-job-gt1023 : goal.returns-then-job-gt1023
 returns-then-job-gt1023 c =
     let r = c.args.job in
     let p1 : leb r.size 256 ≡ true = le-leb r.size 256 (omega (arith, c.if-job-gt256.false)) in
     let p2 : leb r.blocks 1023 ≡ false = lt-leb r.blocks 1023 (omega (arith, c.if-job-gt1023.true)) in
-    cc (p1, p2)
+    rw (p1, p2) refl
 
 pub returns-then-job-gt1024 : goal.returns-then-job-gt1024
 returns-then-job-gt1024 c =
@@ -26,7 +26,7 @@ returns-then-job-gt1024 c =
     let p1 : leb r.size 256 ≡ true = le-leb r.size 256 (omega (arith, c.if-job-gt256.false)) in
     let p2 : leb r.blocks 1023 ≡ true = le-leb r.blocks 1023 (omega (arith, c.if-job-gt1023.false)) in
     let p3 : leb r.pointers 1024 ≡ false = lt-leb r.pointers 1024 (omega (arith, c.if-job-gt1024.true)) in
-    cc (p1, p2, p3)
+    rw (p1, p2, p3) refl
 
 pub returns-then-job-gt1023-2 : goal.returns-then-job-gt1023-2
 returns-then-job-gt1023-2 c =
@@ -35,7 +35,7 @@ returns-then-job-gt1023-2 c =
     let p2 : leb r.blocks 1023 ≡ true = le-leb r.blocks 1023 (omega (arith, c.if-job-gt1023.false)) in
     let p3 : leb r.pointers 1024 ≡ true = le-leb r.pointers 1024 (omega (arith, c.if-job-gt1024.false)) in
     let p4 : leb r.columns 1023 ≡ false = lt-leb r.columns 1023 (omega (arith, c.if-job-gt1023-2.true)) in
-    cc (p1, p2, p3, p4)
+    rw (p1, p2, p3, p4) refl
 
 pub returns-then-job-gt1024-2 : goal.returns-then-job-gt1024-2
 returns-then-job-gt1024-2 c =
@@ -45,7 +45,7 @@ returns-then-job-gt1024-2 c =
     let p3 : leb r.pointers 1024 ≡ true = le-leb r.pointers 1024 (omega (arith, c.if-job-gt1024.false)) in
     let p4 : leb r.columns 1023 ≡ true = le-leb r.columns 1023 (omega (arith, c.if-job-gt1023-2.false)) in
     let p5 : leb r.seeds 1024 ≡ false = lt-leb r.seeds 1024 (omega (arith, c.if-job-gt1024-2.true)) in
-    cc (p1, p2, p3, p4, p5)
+    rw (p1, p2, p3, p4, p5) refl
 
 pub returns : goal.returns
 returns c =
@@ -55,4 +55,4 @@ returns c =
     let p3 : leb r.pointers 1024 ≡ true = le-leb r.pointers 1024 (omega (arith, c.if-job-gt1024.false)) in
     let p4 : leb r.columns 1023 ≡ true = le-leb r.columns 1023 (omega (arith, c.if-job-gt1023-2.false)) in
     let p5 : leb r.seeds 1024 ≡ true = le-leb r.seeds 1024 (omega (arith, c.if-job-gt1024-2.false)) in
-    cc (p1, p2, p3, p4, p5)
+    rw (p1, p2, p3, p4, p5) refl
