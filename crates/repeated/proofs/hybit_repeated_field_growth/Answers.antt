@@ -1,5 +1,4 @@
 -- `repeated::hybit_repeated_field_growth` meets its contract: the lists that the checked growth left are written again with the same. Assumes nothing.
-use borrow.Author.Rules.{rules}
 use mathlib.Core.Path.{◌≡◌, sym, ap, ◌∙◌}
 use mathlib.Core.List.{List}
 use Prim.Native.Nat.{ℕ, ◌≤◌}

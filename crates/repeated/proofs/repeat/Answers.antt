@@ -1,11 +1,10 @@
 -- `repeated::repeat` meets its contract. The invariant: the answer and the lists are those of one growth. Assumes nothing.
 use mathlib.Core.Path.{sym, ◌∙◌}
-use Prim.Native.Nat.{◌-◌}
 use native.Mathlib.Omega.{arith}
 use Rattle.side.specs.Side.{side_holds}
 use Rattle.graph.specs.Network.{plain_network}
 use Rattle.growth.specs.Visits.{grown_by}
-use Rattle.repeated.proofs.Repeating.{Once, once-region, once-frontier, once-scratch}
+use Rattle.repeated.proofs.Repeating.{once-region, once-frontier, once-scratch}
 use Rattle.repeated.proofs.repeat.Goals as goal
 
 pub grow-grown-requires : goal.grow-grown-requires

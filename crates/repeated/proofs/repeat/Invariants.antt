@@ -1,11 +1,9 @@
 -- `repeated::repeat` meets its contract. The invariant: the answer and the lists are those of one growth. Assumes nothing.
-use mathlib.Core.Path.{sym, ◌∙◌}
 use Prim.Native.Nat.{◌-◌}
-use native.Mathlib.Omega.{arith}
 use Rattle.side.specs.Side.{side_holds}
 use Rattle.graph.specs.Network.{plain_network}
 use Rattle.growth.specs.Visits.{grown_by}
-use Rattle.repeated.proofs.Repeating.{Once, once-region, once-frontier, once-scratch}
+use Rattle.repeated.proofs.Repeating.{Once}
 use Rattle.repeated.proofs.repeat.Given as goal
 
 abbrev pub invariant-loop-t : goal.invariant-loop-t

@@ -1,11 +1,10 @@
 -- `repeated::repeat_blocks` meets its contract. The invariant: the answer and the lists are those of one growth. Assumes nothing.
 use mathlib.Core.Path.{sym, ◌∙◌}
-use Prim.Native.Nat.{◌-◌}
 use native.Mathlib.Omega.{arith}
 use Rattle.side.specs.Side.{side_holds}
 use Rattle.graph.specs.Network.{field_network}
 use Rattle.field_region.specs.Growth.{blocks_grown_by}
-use Rattle.repeated.proofs.Repeating.{Once, once-region, once-frontier, once-scratch}
+use Rattle.repeated.proofs.Repeating.{once-region, once-frontier, once-scratch}
 use Rattle.repeated.proofs.repeat_blocks.Goals as goal
 
 pub grow_blocks-grown-requires : goal.grow_blocks-grown-requires

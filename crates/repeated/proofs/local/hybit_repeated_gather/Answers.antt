@@ -1,6 +1,5 @@
 -- `repeated::local::hybit_repeated_gather` meets its contract: the list that the checked gather left is written again with the same. Assumes
 -- nothing.
-use borrow.Author.Rules.{rules}
 use mathlib.Core.Path.{◌≡◌, sym, ap, ◌∙◌}
 use native.Mathlib.Omega.{arith}
 use Rattle.base.specs.declared.Checked.{Checked}

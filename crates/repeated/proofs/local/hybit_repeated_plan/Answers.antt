@@ -1,6 +1,5 @@
 -- `repeated::local::hybit_repeated_plan` meets its contract: the lists that the checked plan left are written again with the same. Assumes
 -- nothing.
-use borrow.Author.Rules.{rules}
 use mathlib.Core.Path.{sym, ap, ◌∙◌}
 use mathlib.Core.Bool.{Bool}
 use mathlib.Core.List.{List}

@@ -1,5 +1,4 @@
 -- `repeated::local::plan_again` meets its contract: each list is written with what it holds. Assumes nothing.
-use borrow.Author.Rules.{rules}
 use mathlib.Core.Path.{◌≡◌, sym, ap, ◌∙◌}
 use mathlib.Core.Bool.{Bool}
 use mathlib.Core.List.{List}

@@ -1,10 +1,6 @@
 -- `repeated::local::repeat_gather` meets its contract. The invariant: the list is as it was. Assumes nothing.
-use mathlib.Core.Path.{◌≡◌, refl, ap, ◌∙◌}
+use mathlib.Core.Path.{◌≡◌}
 use Prim.Native.Nat.{◌-◌}
-use native.Mathlib.Omega.{arith}
-use lib.ListN.{length}
-use Rattle.base.specs.Lists.{over}
-use Rattle.gather.specs.Gather.{gathered}
 use Rattle.repeated.proofs.local.repeat_gather.Given as goal
 
 abbrev pub invariant-loop-t : goal.invariant-loop-t

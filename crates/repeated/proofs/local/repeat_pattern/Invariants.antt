@@ -1,13 +1,6 @@
 -- `repeated::local::repeat_pattern` meets its contract. The invariant: the lists are as they were. Assumes nothing.
-use mathlib.Core.Path.{◌≡◌, refl, ap, ◌∙◌}
+use mathlib.Core.Path.{◌≡◌}
 use Prim.Native.Nat.{◌-◌}
-use native.Mathlib.Omega.{arith}
-use lib.ListN.{length}
-use Rattle.base.specs.Lists.{over}
-use Rattle.base.specs.Sets.{members_below}
-use Rattle.mask.specs.Mask.{in_mask}
-use Rattle.side.specs.Side.{side_holds}
-use Rattle.pattern.specs.Pattern.{pattern_ptr, pattern_columns}
 use Rattle.repeated.proofs.local.repeat_pattern.Given as goal
 
 abbrev pub invariant-loop-t : goal.invariant-loop-t

@@ -1,7 +1,5 @@
 -- `repeated::local::repeat_plan` meets its contract. The invariant: the lists and the count are as they were. Assumes nothing.
-use mathlib.Core.Path.{◌≡◌, refl, sym, ap, ◌∙◌}
-use mathlib.Core.List.{List}
-use Prim.Native.Nat.{ℕ, ◌-◌}
+use mathlib.Core.Path.{refl, sym, ap, ◌∙◌}
 use native.Mathlib.Omega.{arith}
 use lib.ListN.{length}
 use Rattle.repeated.proofs.Holding.{held_same}

@@ -1,10 +1,7 @@
 -- `repeated::local::repeat_plan` meets its contract. The invariant: the lists and the count are as they were. Assumes nothing.
-use mathlib.Core.Path.{◌≡◌, refl, sym, ap, ◌∙◌}
+use mathlib.Core.Path.{◌≡◌}
 use mathlib.Core.List.{List}
 use Prim.Native.Nat.{ℕ, ◌-◌}
-use native.Mathlib.Omega.{arith}
-use lib.ListN.{length}
-use Rattle.repeated.proofs.Holding.{held_same}
 use Rattle.repeated.proofs.local.repeat_plan.Given as goal
 
 pub record Same (first : ℕ) (nodes₀ local-ptr₀ local-cols₀ source-ptr₀ sources₀ nodes local-ptr local-cols source_ptr sources : List ℕ) (terms : ℕ) : Type 0 where
