@@ -46,12 +46,6 @@ returns-in-Refused c =
       sources = u.sources;
     }
 
-pub shape_of-global_nodes-in-Prepared : goal.shape_of-global_nodes-in-Prepared
-shape_of-global_nodes-in-Prepared c = c.global_nodes-in-Prepared-1.given ∙ c.global_nodes-1.given
-
-pub shape_of-local_row_ptr-in-Prepared : goal.shape_of-local_row_ptr-in-Prepared
-shape_of-local_row_ptr-in-Prepared c = c.local_row_ptr-in-Prepared-1.given ∙ c.local_row_ptr-1.given
-
 pub returns-in-Prepared : goal.returns-in-Prepared
 unfolding sources_answer
 returns-in-Prepared c =
