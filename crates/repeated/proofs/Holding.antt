@@ -105,7 +105,7 @@ plan-made (Checked.Refused q) n p lists r a e = refused-not-accepted q a
 
 inputs-accepted : (inputs : Checked) (n : ℕ) (p : ℕ → Bool) (s : ℕ → ℕ → Bool) (lists : List (List ℕ)) (nodes ptr cols source_ptr sources : List ℕ) → plan_check inputs n p s lists nodes ptr cols source_ptr sources ≡ Checked.Accepted → inputs ≡ Checked.Accepted
 unfolding plan_check
-inputs-accepted inputs n p s lists nodes ptr cols source_ptr sources e = (both-passed _ _ e).0
+inputs-accepted _ _ _ _ _ _ _ _ _ _ e = (both-passed _ _ e).0
 
 module _ (nrows ncols : ℕ) (word_ptr indices masks : List ℕ) (pairs nrows2 ncols2 : ℕ) (word_ptr2 indices2 masks2 : List ℕ) (pairs2 rows columns : ℕ) (ptr cols : List ℕ) (values : List Float) (len : ℕ) (words nodes₀ local_ptr₀ local_cols₀ source_ptr₀ sources₀ : List ℕ) where
   abbrev q : ℕ → Bool

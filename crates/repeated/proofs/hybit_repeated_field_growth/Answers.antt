@@ -18,7 +18,7 @@ use Rattle.field_region.specs.Growth.{field_grow_check}
 use Rattle.field_region.proofs.Accepted.{Accepts, accepted-growth}
 use Rattle.repeated.specs.Repeated.{field_hops_answer}
 use Rattle.repeated.proofs.Repeating.{left_is, again-room, again-left, again-long, field-accepted, field-hops-told}
-use Rattle.repeated.proofs.hybit_repeated_field_growth.Goals.{After-repeat_blocks-arg-1, After-repeat_blocks-arg-in-Grown-1, After-words_for-need, In-Grown, Start}
+use Rattle.repeated.proofs.hybit_repeated_field_growth.Goals.{After-words_for-need, In-Grown, Start}
 use Rattle.repeated.proofs.hybit_repeated_field_growth.Goals as goal
 
 -- in this arm the checks accepted
@@ -103,8 +103,9 @@ slice_bounds-repeat_blocks-end-in-Grown-5 c = sym (length-take-le _ _ (room-scra
 pub repeat_blocks-grown-requires : goal.repeat_blocks-grown-requires
 repeat_blocks-grown-requires c =
     let g = good (goal.at.repeat_blocks-grown-requires c).In-Grown in
-    let n = needed (goal.at.repeat_blocks-grown-requires c).After-words_for-need in
-    (g.topology, g.layout.running, g.mask, length-take-le _ _ (room-region (goal.at.repeat_blocks-grown-requires c).After-words_for-need) ∙ n, length-take-le _ _ (room-frontier (goal.at.repeat_blocks-grown-requires c).After-words_for-need) ∙ n, length-take-le _ _ (room-scratch (goal.at.repeat_blocks-grown-requires c).After-words_for-need) ∙ n)
+    let w = (goal.at.repeat_blocks-grown-requires c).After-words_for-need in
+    let n = needed w in
+    (g.topology, g.layout.running, g.mask, length-take-le _ _ (room-region w) ∙ n, length-take-le _ _ (room-frontier w) ∙ n, length-take-le _ _ (room-scratch w) ∙ n)
 
 pub returns-in-Refused : goal.returns-in-Refused
 unfolding field_hops_answer

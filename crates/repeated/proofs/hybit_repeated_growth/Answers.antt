@@ -16,7 +16,7 @@ use Rattle.region.specs.Growth.{grow_check}
 use Rattle.region.proofs.Accepted.{Accepts, accepted-growth}
 use Rattle.repeated.specs.Repeated.{hops_answer}
 use Rattle.repeated.proofs.Repeating.{left_is, again-room, again-left, again-long, grown-accepted, hops-told}
-use Rattle.repeated.proofs.hybit_repeated_growth.Goals.{After-repeat-arg-1, After-repeat-arg-in-Grown-1, After-words_for-need, In-Grown, Start}
+use Rattle.repeated.proofs.hybit_repeated_growth.Goals.{After-words_for-need, In-Grown, Start}
 use Rattle.repeated.proofs.hybit_repeated_growth.Goals as goal
 
 -- in this arm the checks accepted
@@ -101,8 +101,9 @@ slice_bounds-repeat-end-in-Grown-5 c = sym (length-take-le _ _ (room-scratch (go
 pub repeat-grown-requires : goal.repeat-grown-requires
 repeat-grown-requires c =
     let g = good (goal.at.repeat-grown-requires c).In-Grown in
-    let n = needed (goal.at.repeat-grown-requires c).After-words_for-need in
-    (g.topology, g.mask, length-take-le _ _ (room-region (goal.at.repeat-grown-requires c).After-words_for-need) ∙ n, length-take-le _ _ (room-frontier (goal.at.repeat-grown-requires c).After-words_for-need) ∙ n, length-take-le _ _ (room-scratch (goal.at.repeat-grown-requires c).After-words_for-need) ∙ n)
+    let w = (goal.at.repeat-grown-requires c).After-words_for-need in
+    let n = needed w in
+    (g.topology, g.mask, length-take-le _ _ (room-region w) ∙ n, length-take-le _ _ (room-frontier w) ∙ n, length-take-le _ _ (room-scratch w) ∙ n)
 
 pub returns-in-Refused : goal.returns-in-Refused
 unfolding hops_answer

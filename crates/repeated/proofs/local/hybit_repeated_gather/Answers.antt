@@ -25,7 +25,7 @@ pub repeat_gather-requires : goal.repeat_gather-requires
 repeat_gather-requires c =
     let g = good (goal.at.repeat_gather-requires c).In-Count in
     let left = c.gather_values.ensures.out_after in
-    (g.some, g.starts, g.rises, g.ends, g.inside, omega (arith, g.room, c.out-1.given), holds _ (gathered c.args.source_ptr.now c.args.source_indices.now c.args.values.now) c.args.out.now _ (ok (goal.at.repeat_gather-requires c).In-Count) left)
+    (g.some, g.starts, g.rises, g.ends, g.inside, omega (arith, g.room), holds _ (gathered c.args.source_ptr.now c.args.source_indices.now c.args.values.now) c.args.out.now _ (ok (goal.at.repeat_gather-requires c).In-Count) left)
 
 pub returns-in-Refused : goal.returns-in-Refused
 unfolding count_answer

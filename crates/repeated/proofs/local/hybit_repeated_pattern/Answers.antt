@@ -39,13 +39,18 @@ repeat_pattern-requires c =
     let f = (good (goal.at.repeat_pattern-requires c).In-Extracted).1 in
     let p = in_mask c.args.words.now in
     let left = c.extract_local_submatrix_pattern.ensures in
-    (g.topology.rows, g.mask, omega (arith, f.nodes_room, c.global_nodes-1.given), omega (arith, f.ptr_room, c.row_ptr-1.given), omega (arith, f.columns_room, c.col_idx-1.given), holds _ (members_below c.args.nrows p) c.args.global_nodes.now _ e left.members, holds _ (pattern_ptr c.args.nrows p (pairs (goal.at.repeat_pattern-requires c).In-Extracted)) c.args.row_ptr.now _ e left.pointers, holds _ (pattern_columns c.args.nrows p (pairs (goal.at.repeat_pattern-requires c).In-Extracted)) c.args.col_idx.now _ e left.columns)
+    (g.topology.rows, g.mask, omega (arith, f.nodes_room), omega (arith, f.ptr_room), omega (arith, f.columns_room), holds _ (members_below c.args.nrows p) c.args.global_nodes.now _ e left.members, holds _ (pattern_ptr c.args.nrows p (pairs (goal.at.repeat_pattern-requires c).In-Extracted)) c.args.row_ptr.now _ e left.pointers, holds _ (pattern_columns c.args.nrows p (pairs (goal.at.repeat_pattern-requires c).In-Extracted)) c.args.col_idx.now _ e left.columns)
 
 pub returns-in-Refused : goal.returns-in-Refused
 unfolding pairs_answer
 returns-in-Refused c =
     let u = c.extract_local_submatrix_pattern.ensures in
-    record { value = c.refused.ensures ∙ ap pairs_answer (sym c.in-Refused.is ∙ u.value); members = u.members; pointers = u.pointers; columns = u.columns }
+    record {
+      value = c.refused.ensures ∙ ap pairs_answer (sym c.in-Refused.is ∙ u.value);
+      members = u.members;
+      pointers = u.pointers;
+      columns = u.columns;
+    }
 
 pub returns-in-Extracted : goal.returns-in-Extracted
 unfolding pairs_answer

@@ -37,13 +37,14 @@ pub returns-in-Refused : goal.returns-in-Refused
 unfolding sources_answer
 returns-in-Refused c =
     let u = c.prepare_local_numeric_plan.ensures in
-    record { value = c.refused.ensures ∙ ap sources_answer (sym c.in-Refused.is ∙ u.value); members = u.members; pointers = u.pointers; columns = u.columns; starts = u.starts; sources = u.sources }
-
-pub shape_of-global_nodes-in-Prepared : goal.shape_of-global_nodes-in-Prepared
-shape_of-global_nodes-in-Prepared c = c.global_nodes-in-Prepared-1.given ∙ c.global_nodes-1.given
-
-pub shape_of-local_row_ptr-in-Prepared : goal.shape_of-local_row_ptr-in-Prepared
-shape_of-local_row_ptr-in-Prepared c = c.local_row_ptr-in-Prepared-1.given ∙ c.local_row_ptr-1.given
+    record {
+      value = c.refused.ensures ∙ ap sources_answer (sym c.in-Refused.is ∙ u.value);
+      members = u.members;
+      pointers = u.pointers;
+      columns = u.columns;
+      starts = u.starts;
+      sources = u.sources;
+    }
 
 pub returns-in-Prepared : goal.returns-in-Prepared
 unfolding sources_answer
