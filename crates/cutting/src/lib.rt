@@ -1,6 +1,7 @@
 // The region of a peak cut out of a built topology of exactly the matrix's pairs: grown by whole blocks, then its pattern and its numeric plan, each
 // list zero past its own part. It holds no public call.
 #![tactic(auto)]
+
 use field_region::FieldAwareRegionStats;
 use numeric_plan::AbtmLocalNumericPlanStats;
 use pattern::AbtmLocalSubmatrixPatternStats;

@@ -1,5 +1,6 @@
 // The numeric plan of a region, region.rs of the Rust: for each pair of the local pattern its entries in stored order, as they stand in the matrix.
 #![tactic(auto)]
+
 ghost use Rattle.std.specs.Prelude.{◌≡◌};
 ghost use Rattle.base.specs.Checks.{◌then◌};
 ghost use Rattle.mask.specs.Mask.{in_mask};

@@ -1,6 +1,7 @@
 // The job program on bytes: a job's text in, the answer's text out. It keeps its lists in fixed arrays of 1,024 numbers and lends the library their
 // parts.
 #![tactic(auto)]
+
 ghost use Rattle.std.specs.Prelude.{◌≡◌};
 ghost use Rattle.job_text.specs.Answer.{text_answer, text_left};
 ghost use Rattle.peak_job.specs.Answer.{answer_text};

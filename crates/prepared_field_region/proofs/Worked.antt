@@ -6,7 +6,6 @@ use mathlib.Core.List.{List, [], ◌∷◌}
 use Prim.Native.Nat.{ℕ}
 use lib.Ieee.{Float, inf, fin}
 use lib.IntN.{pos}
-use lib.ListN.{length}
 use Rattle.base.specs.Checks.{plain, refusal_of_length, must, must_be, ◌then◌, checks_below}
 use Rattle.base.specs.Lists.{is_in, same_list, list_from, join_below}
 use Rattle.base.specs.Sets.{any_below, first_below, every_below, sum_below, members_from}

@@ -7,15 +7,14 @@ use Rattle.base.specs.Lists.{over_with_zeros}
 use Rattle.base.specs.Sets.{members_below}
 use Rattle.base.specs.declared.Checked.{Checked}
 use Rattle.csr32.specs.Matrix.{stored}
-use Rattle.mask.specs.Mask.{in_mask, length_check}
+use Rattle.mask.specs.Mask.{length_check}
 use Rattle.side.specs.Side.{flip, side_ptr, side_words, side_masks, pair_count}
 use Rattle.dual_topology.specs.Answers.{build_room, counts_of, stats_of}
-use Rattle.graph.specs.Network.{Network, field_network, region_words}
 use Rattle.growth.specs.Lent.{masks_room}
 use Rattle.field_region.specs.Growth.{field_stats}
 use Rattle.pattern.specs.Pattern.{pattern_ptr, pattern_columns, stats_of_pattern}
 use Rattle.gather.specs.Plan.{plan_sources, plan_ptr}
-use Rattle.numeric_plan.specs.Plan.{pair_entries, plan_stats}
+use Rattle.numeric_plan.specs.Plan.{plan_stats}
 use Rattle.cutting.specs.Cut.{network_of, region_of, lists_of}
 use Rattle.prepared_field_region.specs.declared.PreparedFieldAwareLocalRegion.{PreparedFieldAwareLocalRegion}
 use Rattle.prepared_field_region.specs.declared.RegionPrepared.{RegionPrepared}

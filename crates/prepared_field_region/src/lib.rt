@@ -1,6 +1,7 @@
 // A region prepared from a matrix, a layout and seeds, prepared_field_region.rs of the Rust: the topology is built, the region grown, its pattern and
 // its numeric plan made, after one check. What the Rust keeps in a `PreparedFieldAwareTopology` are plain arguments here.
 #![tactic(auto)]
+
 ghost use Rattle.std.specs.Prelude.{◌≡◌, ◌+◌, length};
 ghost use Rattle.csr32.specs.Matrix.{matrix_check, stored};
 ghost use Rattle.dof_layout.specs.Layout.{total_of};

@@ -1,5 +1,4 @@
 -- `prepared_field_region::validate_block_owners` meets its contract. Assumes nothing.
-use borrow.Author.Rules.{rules}
 use mathlib.Core.Path.{◌≡◌, refl, sym, ◌∙◌}
 use Rattle.base.specs.declared.Checked.{Checked}
 use Rattle.base.specs.declared.Counted.{Counted}
@@ -39,6 +38,6 @@ returns-in-Refused c =
 
 pub returns-in-Accepted : goal.returns-in-Accepted
 returns-in-Accepted c = record {
-      value = on-accepted _ _ _ _ (ok (goal.at.returns-in-Accepted c).In-Accepted) refl;
-      owned = on-accepted _ _ _ _ (ok (goal.at.returns-in-Accepted c).In-Accepted) c.write_owners.ensures;
-    }
+  value = on-accepted _ _ _ _ (ok (goal.at.returns-in-Accepted c).In-Accepted) refl;
+  owned = on-accepted _ _ _ _ (ok (goal.at.returns-in-Accepted c).In-Accepted) c.write_owners.ensures;
+}

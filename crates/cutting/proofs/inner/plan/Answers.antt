@@ -1,5 +1,4 @@
 -- `cutting::inner::plan` meets its contract. Assumes nothing.
-use borrow.Author.Rules.{rules}
 use mathlib.Core.Path.{sym, ◌∙◌, subst}
 use native.Mathlib.Omega.{arith}
 use Rattle.base.proofs.Sets.{count-le}

@@ -1,5 +1,4 @@
 -- `numeric_plan::inner::check_room` meets its contract. Assumes nothing.
-use borrow.Author.Rules.{rules}
 use mathlib.Core.Path.{refl, sym, ◌∙◌}
 use borrow.Author.Tests.{le-leb, lt-leb, lt-ltb, le-ltb}
 use Rattle.base.proofs.Checks.{pass, stop, last-pass, last-stop, group-pass, group-stop}

@@ -1,5 +1,4 @@
 -- `numeric_plan::inner::prepare` meets its contract: either scratch is zero and has room for the mask. Assumes nothing.
-use borrow.Author.Rules.{rules}
 use mathlib.Core.Path.{sym, ap}
 use Prim.Native.Nat.{ℕ}
 use native.Mathlib.Omega.{arith}

@@ -1,5 +1,4 @@
 -- `numeric_plan::inner::stats` meets its contract. Assumes nothing.
-use borrow.Author.Rules.{rules}
 use mathlib.Core.Path.{refl}
 use Rattle.numeric_plan.proofs.inner.stats.Goals as goal
 

@@ -1,5 +1,4 @@
 -- `numeric_plan::inner::write` meets its contract: either table has a place for each word. Assumes nothing.
-use borrow.Author.Rules.{rules}
 use native.Mathlib.Omega.{arith}
 use Rattle.numeric_plan.proofs.inner.write.Goals as goal
 

@@ -1,5 +1,4 @@
 -- `numeric_plan::inner::write_ranked` meets its contract. Assumes nothing.
-use borrow.Author.Rules.{rules}
 use Rattle.numeric_plan.proofs.OneRow.{tables}
 use Rattle.numeric_plan.proofs.inner.write_ranked.Goals as goal
 

@@ -1,6 +1,6 @@
 -- `numeric_plan::inner::write_rows` meets its contract. The invariant: the first k rows are written. Assumes nothing.
 use mathlib.Core.Path.{◌≡◌, sym, ◌∙◌, subst}
-use Prim.Native.Nat.{ℕ, ◌-◌, ◌<◌}
+use Prim.Native.Nat.{ℕ, ◌<◌}
 use native.Mathlib.Omega.{arith}
 use lib.Dec.{T}
 use lib.ListN.{get_or, set, length-set}
@@ -19,7 +19,7 @@ use Rattle.numeric_plan.specs.Plan.{pair_entries}
 use Rattle.numeric_plan.specs.Steps.{row_entries, RowRoom}
 use Rattle.numeric_plan.proofs.Binding.{bound}
 use Rattle.numeric_plan.proofs.Pairs.{sources-within}
-use Rattle.numeric_plan.proofs.Rows.{Rows, rows_none, rows_pairs, rows_room, rows_next, rows_all}
+use Rattle.numeric_plan.proofs.Rows.{rows_none, rows_pairs, rows_room, rows_next, rows_all}
 use Rattle.numeric_plan.proofs.inner.write_rows.Goals.{In-loop-k}
 use Rattle.numeric_plan.proofs.inner.write_rows.Goals as goal
 

@@ -1,7 +1,6 @@
 -- `peak_job::inner::cut` meets its contract. Assumes nothing.
 use Prim.Native.Nat.{ℕ, ◌≤◌}
 use native.Mathlib.Omega.{arith}
-use borrow.Author.Rules.{rules}
 use lib.ListN.{length, replicate, length-replicate}
 use Rattle.peak_job.proofs.inner.cut.Goals as goal
 

@@ -1,5 +1,4 @@
 -- `peak_job::inner::fault` meets its contract. Assumes nothing.
-use borrow.Author.Rules.{rules}
 use Rattle.peak_job.specs.Steps.{read_fits}
 use Rattle.peak_job.proofs.Jobs.{first-is}
 use Rattle.peak_job.proofs.inner.fault.Goals as goal

@@ -1,9 +1,7 @@
 -- `peak_job::inner::first` meets its contract. Assumes nothing.
-use mathlib.Core.Path.{◌≡◌, sym, ap}
-use mathlib.Core.Bool.{Bool, true, false, cond}
-use Prim.Native.Nat.{ℕ}
+use mathlib.Core.Path.{sym, ap}
+use mathlib.Core.Bool.{Bool, cond}
 use borrow.Author.Tests.{eq-eqb, ne_eqb}
-use lib.Dec.{eqb}
 use Rattle.peak_job.proofs.inner.first.Goals as goal
 
 pub returns-then-a-eq0 : goal.returns-then-a-eq0

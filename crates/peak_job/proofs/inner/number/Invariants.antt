@@ -1,11 +1,8 @@
 -- `peak_job::inner::number` meets its contract. The invariant: the places before b hold themselves. Assumes nothing.
-use mathlib.Core.Path.{◌≡◌, refl, sym, ◌∙◌}
-use Prim.Native.Nat.{ℕ, ◌+◌, ◌-◌, ◌≤◌, ◌<◌}
-use native.Mathlib.Omega.{arith}
-use borrow.Author.Rules.{rules}
-use lib.ListN.{length, length-set}
+use mathlib.Core.Path.{◌≡◌}
+use Prim.Native.Nat.{◌-◌, ◌≤◌}
+use lib.ListN.{length}
 use Rattle.base.specs.Lists.{list_from, written}
-use Rattle.base.proofs.Lists.{length-list_from, get_or-list_from, put_next, put_whole}
 use Rattle.peak_job.proofs.inner.number.Given as goal
 
 abbrev pub invariant-loop-b : goal.invariant-loop-b

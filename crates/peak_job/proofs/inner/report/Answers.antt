@@ -3,10 +3,9 @@ use mathlib.Core.Path.{◌≡◌, sym, ap, ap₂, ◌∙◌, subst}
 use mathlib.Core.List.{List}
 use Prim.Native.Nat.{ℕ, ◌+◌, ◌-◌, ◌≤◌}
 use native.Mathlib.Omega.{arith}
-use borrow.Author.Rules.{rules}
 use lib.ListN.{length, take, length-replicate, length-take}
 use lib.Seq.{length-take-le}
-use Rattle.base.specs.Sets.{count_below, members_below}
+use Rattle.base.specs.Sets.{members_below}
 use Rattle.base.proofs.Lists.{over-own}
 use Rattle.base.proofs.Sets.{count-le, count-members}
 use Rattle.mask.specs.Mask.{words_needed, in_mask, IsMask}

@@ -1,5 +1,4 @@
 -- `prepared_field_region::inner::check_inputs` meets its contract. Assumes nothing.
-use borrow.Author.Rules.{rules}
 use mathlib.Core.Path.{sym, ◌∙◌}
 use Rattle.base.proofs.Checks.{group-pass, group-stop, both-passed, then-assoc}
 use Rattle.csr32.proofs.Matrix.{accepted}

@@ -1,5 +1,4 @@
 -- `prepared_field_region::inner::check_local` meets its contract. Assumes nothing.
-use borrow.Author.Rules.{rules}
 use Rattle.base.proofs.Checks.{checks}
 use Rattle.prepared_field_region.specs.Prepared.{local_room}
 use Rattle.prepared_field_region.proofs.inner.check_local.Goals as goal

@@ -1,5 +1,4 @@
 -- `prepared_field_region::inner::check_owners` meets its contract. Assumes nothing.
-use borrow.Author.Rules.{rules}
 use mathlib.Core.Path.{sym, ◌∙◌}
 use Rattle.base.proofs.Checks.{group-pass, group-stop, both-passed, then-assoc}
 use Rattle.dof_layout.proofs.Layouts.{none-empty}

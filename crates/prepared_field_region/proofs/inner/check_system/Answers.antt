@@ -1,5 +1,4 @@
 -- `prepared_field_region::inner::check_system` meets its contract. Assumes nothing.
-use borrow.Author.Rules.{rules}
 use mathlib.Core.Path.{sym, ◌∙◌}
 use Rattle.base.proofs.Checks.{group-pass, group-stop}
 use Rattle.prepared_field_region.proofs.inner.check_system.Goals as goal
