@@ -9,10 +9,12 @@ use std::process::Command;
 fn main() {
     println!("cargo::rerun-if-env-changed=HYBIT_MATRIX_ARCHIVE");
     let archive = match env::var_os("HYBIT_MATRIX_ARCHIVE") {
-        Some(named) => PathBuf::from(named),
+        Some(named) => {
+            println!("cargo::rerun-if-changed={}", Path::new(&named).display());
+            PathBuf::from(named)
+        }
         None => built(),
     };
-    println!("cargo::rerun-if-changed={}", archive.display());
     match archive.canonicalize() {
         Ok(found) if found.ends_with("libhybit_matrix.a") => {
             let folder = found.parent().expect("a file stands in a folder");
