@@ -40,7 +40,8 @@ fn word_turned(
     let first = AbtmTopologyWord::BITS * word as usize;
     let mut left = mask;
     while left != 0 {
-        let col = first + u64::trailing_zeros(left) as usize;
+        let col = first + left.trailing_zeros() as usize;
+        prove!(col < ncols);
         let from = column_word_ptr[col] as usize;
         let to = column_word_ptr[col + 1] as usize;
         if !holds(column_word_indices, column_masks, from, to, row) {
@@ -66,9 +67,7 @@ fn row_turned(
     requires { IsSide nrows ncols row_word_ptr.now row_word_indices.now row_masks.now × IsSide ncols nrows column_word_ptr.now column_word_indices.now column_masks.now × (row < nrows) }
     ensures { result ≡ within ncols (side_holds row_word_ptr.now row_word_indices.now row_masks.now row) (flip (side_holds column_word_ptr.now column_word_indices.now column_masks.now) row) }
 {
-    let to = row_word_ptr[row + 1] as usize;
-    let mut k = row_word_ptr[row] as usize;
-    while k < to {
+    for k in row_word_ptr[row] as usize..row_word_ptr[row + 1] as usize {
         if !word_turned(
             nrows,
             ncols,
@@ -81,7 +80,6 @@ fn row_turned(
         ) {
             return false;
         }
-        k += 1;
     }
     true
 }
@@ -100,8 +98,7 @@ pub fn is_transpose(
     requires { IsSide nrows ncols row_word_ptr.now row_word_indices.now row_masks.now × IsSide ncols nrows column_word_ptr.now column_word_indices.now column_masks.now × (bits_in row_masks.now 0 (length row_masks.now) ≡ bits_in column_masks.now 0 (length column_masks.now)) }
     ensures { result ≡ turned nrows ncols (side_holds row_word_ptr.now row_word_indices.now row_masks.now) (side_holds column_word_ptr.now column_word_indices.now column_masks.now) }
 {
-    let mut row: usize = 0;
-    while row < nrows {
+    for row in 0..nrows {
         if !row_turned(
             nrows,
             ncols,
@@ -115,7 +112,6 @@ pub fn is_transpose(
         ) {
             return false;
         }
-        row += 1;
     }
     true
 }

@@ -7,11 +7,13 @@ use Prim.Native.Nat.{ℕ, zero, suc, ◌+◌, ◌-◌, ◌≤◌, ◌<◌}
 use native.Mathlib.Nat.{zero-add, add-zero, le_refl, le_of_suc-le-suc, not-suc-le-zero, le_of_lt, sub-zero, zero-sub, suc-sub-suc}
 use native.Mathlib.Numerals.{add-one}
 use native.Mathlib.Omega.{arith}
-use borrow.Author.Tests.{eq-eqb, eqb-true, lt-ltb}
-use lib.Dec.{T, ltb, eqb, ltb→lt, lt→ltb, eqb→eq}
+use borrow.Author.Tests.{eq-eqb, eqb-true, lt-ltb, le-leb, lt-leb}
+use Rattle.std.specs.Bool.{MatchBool}
+use Rattle.std.specs.List.Sorted.{IsNonDecreasing}
+use lib.Dec.{T, leb, ltb, eqb, ltb→lt, lt→ltb, eqb→eq}
 use lib.ListN.{length, get_or, set, take, drop, replicate, get_or-append, drop_of_length-le, length-append, length-take, length-drop, length-replicate, take-append-drop, replicate-append-replicate}
 use lib.Seq.{slice, get_or-append-add, drop-cons, take-suc, take-take, length-take-le, set_at, append_snoc, take_all, drop-length, get_or-drop, get_or-take, length-slice, slice_empty, drop-append-le, drop-append-add, drop-drop, ext_get_or, take-append_seam, take-nil, take_at}
-use Rattle.base.specs.Lists.{every, below, pairwise, is_in, same_list, list_from, written, over, placed, over_with_zeros, zeroed}
+use Rattle.base.specs.Lists.{every, below, rising, pairwise, is_in, same_list, list_from, written, over, placed, over_with_zeros, zeroed}
 use Rattle.base.proofs.Bools.{bool-ext, and_l, and_r, and_i, and-under, and_left, and_right, or_l, or_r, or-e, or-false, T_true, T_false, T_of, both_ways, lt-or-le}
 
 -- ---- a loop that tests a list from the front: the test of the whole list is the test of what is left of it
@@ -99,6 +101,15 @@ pairwise-i f d (x ∷ []) h = refl
 pairwise-i f d (x ∷ (y ∷ ys)) h =
     ap (λ (b : Bool). b && pairwise f (y ∷ ys)) (h 0 (omega arith))
     ∙ pairwise-i f d (y ∷ ys) (λ i l. let e : suc i + 1 ≡ suc (i + 1) = omega arith in ap (λ (n : ℕ). f (get_or (y ∷ ys) i d) (get_or (x ∷ (y ∷ ys)) n d)) (sym e) ∙ h (suc i) (omega arith))
+
+-- what `is_sorted` answers of numbers
+pub rising-from_answer : (s : List ℕ) (r : Bool) → MatchBool r (IsNonDecreasing s) ((k : ℕ) × (k + 1 < length s) × ((d : ℕ) → get_or s (k + 1) d < get_or s k d)) → r ≡ rising s
+rising-from_answer s true h = sym (pairwise-i leb 0 s (λ i l. le-leb _ _ (h i (i + 1) 0 (omega arith) l)))
+rising-from_answer s false h =
+    sym (T_false _ (λ y.
+    let up : leb (get_or s h.0 0) (get_or s (h.0 + 1) 0) ≡ true = pairwise-at leb 0 s h.0 (T_true _ y) h.1 in
+    let down : leb (get_or s h.0 0) (get_or s (h.0 + 1) 0) ≡ false = lt-leb _ _ (h.2 0) in
+    cc))
 
 -- ---- a list of pointers that never falls
 

@@ -1,9 +1,8 @@
--- The chain of checks. A call's checks are one `Checked`, the first refusal of its conditions in document 01's order; by `after` it
--- decides the call's own answer and each list the call was lent.
-use Rattle.std.specs.Prelude.{Bool, true, false, cond, ℕ, zero, suc, eqb}
+-- The chain of checks. A call's checks are one `Check`, accepted or the first refusal of its conditions in document 01's order; it decides
+-- the call's own answer (`answer`) and each list the call was lent (`leaves`).
+use Rattle.std.specs.Prelude.{Bool, true, false, cond, ℕ, zero, suc, eqb, Result, Ok, Err}
 use Rattle.base.specs.declared.Refusal.{Refusal}
-use Rattle.base.specs.declared.Checked.{Checked}
-use Rattle.base.specs.declared.Checked.TheVariants.{Accepted, Refused}
+use Rattle.base.specs.declared.Refusal.TheVariants.{OverLimit, RowPtrLength, EntryLengths, RowPtrStart, RowPtrEnd, RowPtrFalls, ColumnOutside, NotFinite, BadTopology, NotSquare, WrongLength, BitPastLength, OutOfRange, NoBlock, EmptyBlock, RepeatedBlock, UnknownKind, TotalNotSides, NoRanks, OwnerOutOfRange, OwnersDiffer, SidesDiffer, PairWithoutEntry, EntryWithoutPair, ListTooShort, BadPointers, MalformedJob}
 
 infixr 10 ◌then◌
 -- the limits of refusal 1
@@ -16,38 +15,78 @@ entry_limit = 16777216
 abbrev pub region_limit : ℕ
 region_limit = 65536
 
--- a refusal whose two figures are 0
-abbrev pub plain : ℕ → Refusal
-plain n = record { number = n; expected = 0; actual = 0 }
+-- ---- a refusal's number in document 01's table, and its two figures, which are 0 but for 11
 
--- refusal 11, with what was expected and what was met
-abbrev pub refusal_of_length : ℕ → ℕ → Refusal
-refusal_of_length e a = record { number = 11; expected = e; actual = a }
+abbrev pub refusal_number : Refusal → ℕ
+refusal_number OverLimit = 1
+refusal_number RowPtrLength = 2
+refusal_number EntryLengths = 3
+refusal_number RowPtrStart = 4
+refusal_number RowPtrEnd = 5
+refusal_number RowPtrFalls = 6
+refusal_number ColumnOutside = 7
+refusal_number NotFinite = 8
+refusal_number BadTopology = 9
+refusal_number NotSquare = 10
+refusal_number (WrongLength e a) = 11
+refusal_number BitPastLength = 12
+refusal_number OutOfRange = 13
+refusal_number NoBlock = 14
+refusal_number EmptyBlock = 15
+refusal_number RepeatedBlock = 16
+refusal_number UnknownKind = 17
+refusal_number TotalNotSides = 18
+refusal_number NoRanks = 19
+refusal_number OwnerOutOfRange = 20
+refusal_number OwnersDiffer = 21
+refusal_number SidesDiffer = 22
+refusal_number PairWithoutEntry = 23
+refusal_number EntryWithoutPair = 24
+refusal_number ListTooShort = 25
+refusal_number BadPointers = 26
+refusal_number MalformedJob = 27
 
--- what must hold, and the number of the refusal where it does not
-unfoldable pub must : Bool → ℕ → Checked
-must true n = Accepted
-must false n = Refused (plain n)
+abbrev pub refusal_expected : Refusal → ℕ
+refusal_expected (WrongLength e a) = e
+refusal_expected _ = 0
+
+abbrev pub refusal_actual : Refusal → ℕ
+refusal_actual (WrongLength e a) = a
+refusal_actual _ = 0
+
+-- ---- a check accepts, or refuses
+
+abbrev pub Check : Type 0
+Check = Result Unit Refusal
+
+-- what must hold, and the refusal where it does not
+unfoldable pub must : Bool → Refusal → Check
+must true r = Ok tt
+must false r = Err r
 
 -- a length that must be the expected one: refusal 11
-unfoldable pub must_be : ℕ → ℕ → Checked
-must_be expected actual = cond (eqb actual expected) Accepted (Refused (refusal_of_length expected actual))
+unfoldable pub must_be : ℕ → ℕ → Check
+must_be expected actual = must (eqb actual expected) (WrongLength expected actual)
 
 -- one check, and where it accepts the next: the first refusal decides
-unfoldable pub ◌then◌ : Checked → Checked → Checked
-◌then◌ Accepted next = next
-◌then◌ (Refused r) next = Refused r
+unfoldable pub ◌then◌ : Check → Check → Check
+◌then◌ (Ok _) next = next
+◌then◌ (Err r) next = Err r
 
 -- check 0, check 1, … , n of them: the first that refuses decides
-unfoldable pub checks_below : ℕ → (ℕ → Checked) → Checked
-checks_below zero check = Accepted
+unfoldable pub checks_below : ℕ → (ℕ → Check) → Check
+checks_below zero check = Ok tt
 checks_below (suc n) check = checks_below n check then check n
 
--- what a call answers, or leaves in a list, where its checks accept, and by what it hands a refusal on
-abbrev pub after : {A : Type 0} → Checked → A → (Refusal → A) → A
-after Accepted a f = a
-after (Refused r) a f = f r
+-- what is answered, or left in a list, where the checks accept, and by what a refusal is handed on
+abbrev pub after : {A : Type 0} → Check → A → (Refusal → A) → A
+after (Ok _) a f = a
+after (Err r) a f = f r
+
+-- what a call answers: its answer where its checks accept, else the refusal
+abbrev pub answer : {A : Type 0} → Check → A → Result A Refusal
+answer c a = after c (Ok a) Err
 
 -- what a call leaves in a list: the new where its checks accept, else the list as it was
-abbrev pub leaves : {A : Type 0} → Checked → A → A → A
+abbrev pub leaves : {A : Type 0} → Check → A → A → A
 leaves c new old = after c new (λ r. old)

@@ -6,20 +6,12 @@ pub fn zero(l: &mut [u32], from: usize, to: usize)
     requires { (from ≤ to) × (to ≤ length l.old) }
     ensures { l.new ≡ zeroed from to l.old }
 {
-    let mut i = from;
-    while i < to {
-        l[i] = 0;
-        i += 1;
-    }
+    l[from..to].fill(0);
 }
 
 pub fn zero_wide(l: &mut [u64], from: usize, to: usize)
     requires { (from ≤ to) × (to ≤ length l.old) }
     ensures { l.new ≡ zeroed from to l.old }
 {
-    let mut i = from;
-    while i < to {
-        l[i] = 0;
-        i += 1;
-    }
+    l[from..to].fill(0);
 }

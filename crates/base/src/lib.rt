@@ -2,8 +2,8 @@
 // promises are made of: the chain of checks, sets of numbers, and lists written over the front of a lent list.
 #![tactic(auto)]
 
-ghost use Rattle.std.specs.Prelude.{◌≡◌};
-ghost use Rattle.base.specs.Checks.{plain, refusal_of_length};
+ghost use Rattle.std.specs.Prelude.{◌≡◌, ℕ};
+ghost use Rattle.base.specs.Checks.{refusal_number, refusal_expected, refusal_actual};
 
 pub mod inner;
 pub mod scan;
@@ -16,64 +16,126 @@ pub const ENTRY_LIMIT: usize = 16777216;
 
 pub const REGION_LIMIT: usize = 65536;
 
-// A refusal: its number in document 01; the figures are expected and actual for 11, else 0 and 0.
-#[derive(Clone, Copy)]
-pub struct Refusal {
-    pub number: u32,
-    pub expected: u64,
-    pub actual: u64,
-}
-
-// What a check says where there is nothing to answer but acceptance.
-#[derive(Clone, Copy)]
-pub enum Checked {
-    Accepted,
-    Refused(Refusal),
-}
-
-// Yes or no.
-#[derive(Clone, Copy)]
-pub enum Truth {
-    Is(bool),
-    Refused(Refusal),
-}
-
-#[derive(Clone, Copy)]
-pub enum Counted {
-    Count(u64),
-    Refused(Refusal),
+// Why a call was refused, a case for each number of document 01's table, in its order.
+#[derive(Clone, Copy, PartialEq, Eq)]
+pub enum Refusal {
+    OverLimit,
+    RowPtrLength,
+    EntryLengths,
+    RowPtrStart,
+    RowPtrEnd,
+    RowPtrFalls,
+    ColumnOutside,
+    NotFinite,
+    BadTopology,
+    NotSquare,
+    WrongLength { expected: u64, actual: u64 },
+    BitPastLength,
+    OutOfRange,
+    NoBlock,
+    EmptyBlock,
+    RepeatedBlock,
+    UnknownKind,
+    TotalNotSides,
+    NoRanks,
+    OwnerOutOfRange,
+    OwnersDiffer,
+    SidesDiffer,
+    PairWithoutEntry,
+    EntryWithoutPair,
+    ListTooShort,
+    BadPointers,
+    MalformedJob,
 }
 
 impl Refusal {
-    pub fn plain(number: u32) -> Self
-        ensures { result ≡ plain number }
+    pub fn wrong_length(expected: usize, actual: usize) -> Self
+        ensures { result ≡ Refusal.WrongLength expected actual }
     {
-        Self {
-            number,
-            expected: 0,
-            actual: 0,
+        Self::WrongLength {
+            expected: expected as u64,
+            actual: actual as u64,
+        }
+    }
+
+    // Its number in document 01.
+    pub fn number(self) -> u32
+        ensures { result ≡ refusal_number self }
+    {
+        match self {
+            Self::OverLimit => 1,
+            Self::RowPtrLength => 2,
+            Self::EntryLengths => 3,
+            Self::RowPtrStart => 4,
+            Self::RowPtrEnd => 5,
+            Self::RowPtrFalls => 6,
+            Self::ColumnOutside => 7,
+            Self::NotFinite => 8,
+            Self::BadTopology => 9,
+            Self::NotSquare => 10,
+            Self::WrongLength { .. } => 11,
+            Self::BitPastLength => 12,
+            Self::OutOfRange => 13,
+            Self::NoBlock => 14,
+            Self::EmptyBlock => 15,
+            Self::RepeatedBlock => 16,
+            Self::UnknownKind => 17,
+            Self::TotalNotSides => 18,
+            Self::NoRanks => 19,
+            Self::OwnerOutOfRange => 20,
+            Self::OwnersDiffer => 21,
+            Self::SidesDiffer => 22,
+            Self::PairWithoutEntry => 23,
+            Self::EntryWithoutPair => 24,
+            Self::ListTooShort => 25,
+            Self::BadPointers => 26,
+            Self::MalformedJob => 27,
+        }
+    }
+
+    // Its first figure: the length that was expected, for 11, else 0.
+    pub fn expected(self) -> u64
+        ensures { result ≡ refusal_expected self }
+    {
+        match self {
+            Self::WrongLength { expected, .. } => expected,
+            _ => 0,
+        }
+    }
+
+    // Its second figure: the length that was met, for 11, else 0.
+    pub fn actual(self) -> u64
+        ensures { result ≡ refusal_actual self }
+    {
+        match self {
+            Self::WrongLength { actual, .. } => actual,
+            _ => 0,
         }
     }
 }
 
-pub fn refused(number: u32) -> Checked
-    ensures { result ≡ Checked.Refused (plain number) }
-{
-    Checked::Refused(Refusal {
-        number,
-        expected: 0,
-        actual: 0,
-    })
+// A number of a lent list, of 32 or 64 bits.
+pub trait Number: Copy {
+    ghost value: { Self → ℕ };
+
+    fn wide(self) -> usize
+        ensures { result ≡ value self };
 }
 
-pub fn wrong_length(expected: usize, actual: usize) -> Checked
-    ensures { result ≡ Checked.Refused (refusal_of_length expected actual) }
-{
-    Checked::Refused(Refusal {
-        number: 11,
-        expected: expected as u64,
-        actual: actual as u64,
-    })
+impl Number for u32 {
+    ghost value = { λ x. x };
+
+    fn wide(self) -> usize {
+        self as usize
+    }
+}
+
+impl Number for u64 {
+    ghost value = { λ x. x };
+
+    fn wide(self) -> usize {
+        self as usize
+    }
 }
 
 // A 32-bit element as an index.

@@ -1,5 +1,8 @@
 -- The faults of one row, from the mask that its entries filled, and of the members' rows one after the other. Assumes nothing.
 use mathlib.Core.Path.{◌≡◌, refl, sym, ap, ◌∙◌, subst}
+use Rattle.std.specs.Prelude.{Ok, Err}
+use Rattle.base.specs.Checks.{Check}
+use Rattle.base.specs.declared.Refusal.TheVariants.{PairWithoutEntry, EntryWithoutPair}
 use mathlib.Core.Bool.{Bool, true, false, not, ◌&&◌, ◌||◌, and_assoc}
 use mathlib.Core.List.{List}
 use Prim.Native.Nat.{ℕ, ◌+◌, ◌≤◌, ◌<◌}
@@ -7,12 +10,10 @@ use native.Mathlib.Omega.{arith}
 use lib.Dec.{T, T_not}
 use lib.ListN.{get_or}
 use lib.Seq.{slice}
-use Rattle.base.specs.Checks.{side_limit, plain, checks_below}
+use Rattle.base.specs.Checks.{side_limit, checks_below}
 use Rattle.base.specs.Lists.{is_in}
 use Rattle.base.specs.Sets.{any_below, count_below}
 use Rattle.base.specs.declared.Refusal.{Refusal}
-use Rattle.base.specs.declared.Checked.{Checked}
-use Rattle.base.specs.declared.Checked.TheVariants.{Accepted, Refused}
 use Rattle.base.proofs.Bools.{and_l, and_r}
 use Rattle.base.proofs.Checks.{pass, stop, last-pass, last-stop, checks-none, checks-next, checks-all, checks-stop}
 use Rattle.base.proofs.Sets.{any-cong, any_none, count-member, get_or-count}
@@ -70,18 +71,18 @@ module _ (n : ℕ) (ptr cols : List ℕ) (r : ℕ) (pairs : ℕ → Bool) (empty
 -- ---- what a row's two tests answer
 
 module _ (n : ℕ) (p pairs entries : ℕ → Bool) (missing extra : Bool) (m : missing ≡ any_below n (λ c. p c && pairs c && not (entries c)))
-    (e : extra ≡ any_below n (λ c. p c && entries c && not (pairs c))) (x : Checked) where
-  pub row-23 : missing ≡ true → x ≡ Refused (plain 23) → x ≡ row_faults n p pairs entries
+    (e : extra ≡ any_below n (λ c. p c && entries c && not (pairs c))) (x : Check) where
+  pub row-23 : missing ≡ true → x ≡ Err PairWithoutEntry → x ≡ row_faults n p pairs entries
   unfolding row_faults
-  row-23 t h = stop _ 23 x _ (ap not (sym m ∙ t)) h
+  row-23 t h = stop _ _ x _ (ap not (sym m ∙ t)) h
 
-  pub row-24 : missing ≡ false → extra ≡ true → x ≡ Refused (plain 24) → x ≡ row_faults n p pairs entries
+  pub row-24 : missing ≡ false → extra ≡ true → x ≡ Err EntryWithoutPair → x ≡ row_faults n p pairs entries
   unfolding row_faults
-  row-24 f t h = pass _ 23 x _ (ap not (sym m ∙ f)) (last-stop _ 24 x (ap not (sym e ∙ t)) h)
+  row-24 f t h = pass _ _ x _ (ap not (sym m ∙ f)) (last-stop _ _ x (ap not (sym e ∙ t)) h)
 
-  pub row_fine : missing ≡ false → extra ≡ false → x ≡ Accepted → x ≡ row_faults n p pairs entries
+  pub row_fine : missing ≡ false → extra ≡ false → x ≡ Ok tt → x ≡ row_faults n p pairs entries
   unfolding row_faults
-  row_fine f g h = pass _ 23 x _ (ap not (sym m ∙ f)) (last-pass _ 24 x (ap not (sym e ∙ g)) h)
+  row_fine f g h = pass _ _ x _ (ap not (sym m ∙ f)) (last-pass _ _ x (ap not (sym e ∙ g)) h)
 
 -- ---- a row whose pairs are its entries
 
@@ -90,12 +91,12 @@ none-lacks n p a b same =
     ap not (any_none n (λ c. p c && a c && not (b c))
     (λ c l t. T_not (b c) (and_r (p c && a c) (not (b c)) t) (subst (λ (x : Bool). T x) (same c l) (and_r (p c) (a c) (and_l (p c && a c) (not (b c)) t)))))
 
-pub row-agrees : (n : ℕ) (p a b : ℕ → Bool) → ((c : ℕ) → c < n → a c ≡ b c) → row_faults n p a b ≡ Accepted
+pub row-agrees : (n : ℕ) (p a b : ℕ → Bool) → ((c : ℕ) → c < n → a c ≡ b c) → row_faults n p a b ≡ Ok tt
 unfolding row_faults
-row-agrees n p a b same = sym (pass _ 23 Accepted _ (none-lacks n p a b same) (last-pass _ 24 Accepted (none-lacks n p b a (λ c l. sym (same c l))) refl))
+row-agrees n p a b same = sym (pass _ _ (Ok tt) _ (none-lacks n p a b same) (last-pass _ _ (Ok tt) (none-lacks n p b a (λ c l. sym (same c l))) refl))
 
 -- and so every row, where the pairs are the entries
-pub binds-itself : (n : ℕ) (p : ℕ → Bool) (s : ℕ → ℕ → Bool) → binding_check n p s s ≡ Accepted
+pub binds-itself : (n : ℕ) (p : ℕ → Bool) (s : ℕ → ℕ → Bool) → binding_check n p s s ≡ Ok tt
 unfolding binding_check
 binds-itself n p s =
     checks-all (count_below n p) (λ k. row_faults n p (s (member_at n p k)) (s (member_at n p k))) (λ k h. row-agrees n p (s (member_at n p k)) (s (member_at n p k)) (λ c l. refl))
@@ -106,14 +107,14 @@ module _ (n : ℕ) (region : List ℕ) (s entries : ℕ → ℕ → Bool) where
   abbrev p : ℕ → Bool
   p = in_mask region
 
-  abbrev check : ℕ → Checked
+  abbrev check : ℕ → Check
   check k = row_faults n p (s (member_at n p k)) (entries (member_at n p k))
 
   -- the rows of the members below r pass, and the mask is empty
   pub record Checking (seen : List ℕ) (r : ℕ) : Type 0 where
     pub within : r ≤ n
     pub member : r < n → T (in_mask region r)
-    pub passed : checks_below (count_below r p) check ≡ Accepted
+    pub passed : checks_below (count_below r p) check ≡ Ok tt
     pub empty : seen ≡ mask_words n (λ i. false)
 
   pub check_first : (seen : List ℕ) (r : ℕ) → Next n region 0 r → seen ≡ mask_words n (λ i. false) → Checking seen r
@@ -125,11 +126,11 @@ module _ (n : ℕ) (region : List ℕ) (s entries : ℕ → ℕ → Bool) where
     own : row_faults n p (s r) (entries r) ≡ check (count_below r p)
     own = ap (λ (i : ℕ). row_faults n p (s i) (entries i)) (sym (get_or-count n p r l (inv.member l)))
 
-    pub check_stop : (x : Checked) (f : Refusal) → x ≡ row_faults n p (s r) (entries r) → x ≡ Refused f → Refused f ≡ binding_check n p s entries
+    pub check_stop : (x : Check) (f : Refusal) → x ≡ row_faults n p (s r) (entries r) → x ≡ Err f → Err f ≡ binding_check n p s entries
     unfolding binding_check
     check_stop x f e h = sym (checks-stop (count_below n p) (count_below r p) check f (count-member n p r l (inv.member l)) inv.passed (sym own ∙ sym e ∙ h))
 
-    pub check_turn : (x : Checked) → x ≡ row_faults n p (s r) (entries r) → x ≡ Accepted → (seen' : List ℕ) (r' : ℕ) → Next n region (r + 1) r' → seen' ≡ mask_words n (λ i. false) → Checking seen' r'
+    pub check_turn : (x : Check) → x ≡ row_faults n p (s r) (entries r) → x ≡ Ok tt → (seen' : List ℕ) (r' : ℕ) → Next n region (r + 1) r' → seen' ≡ mask_words n (λ i. false) → Checking seen' r'
     check_turn x e h seen' r' next z =
         record {
           within = next.within;
@@ -138,6 +139,6 @@ module _ (n : ℕ) (region : List ℕ) (s entries : ℕ → ℕ → Bool) where
           empty = z;
         }
 
-  pub check_last : (seen : List ℕ) (r : ℕ) → Checking seen r → n ≤ r → Accepted ≡ binding_check n p s entries
+  pub check_last : (seen : List ℕ) (r : ℕ) → Checking seen r → n ≤ r → (Ok tt) ≡ binding_check n p s entries
   unfolding binding_check
   check_last seen r inv l = let e : r ≡ n = omega (arith, inv.within) in sym (ap (λ (k : ℕ). checks_below (count_below k p) check) (sym e) ∙ inv.passed)

@@ -1,5 +1,7 @@
 -- What the members' rows hold inside the region, counted: the sources of a row, and all rows settled one after the other. Assumes nothing.
 use mathlib.Core.Path.{◌≡◌, refl, sym, ap, ap₂, ◌∙◌, subst}
+use Rattle.std.specs.Prelude.{Result, Ok, Err}
+use Rattle.base.specs.Checks.{Check, answer}
 use mathlib.Core.Bool.{Bool, false}
 use mathlib.Core.List.{List}
 use Prim.Native.Nat.{ℕ, zero, suc, ◌+◌, ◌-◌, ◌≤◌, ◌<◌}
@@ -10,8 +12,6 @@ use lib.ListN.{get_or}
 use Rattle.base.specs.Checks.{entry_limit, after}
 use Rattle.base.specs.Sets.{one_if, sum_below, sum_over, count_below}
 use Rattle.base.specs.declared.Refusal.{Refusal}
-use Rattle.base.specs.declared.Checked.{Checked}
-use Rattle.base.specs.declared.Checked.TheVariants.{Accepted, Refused}
 use Rattle.base.proofs.Checks.{on-accepted, on-refused}
 use Rattle.base.proofs.Sets.{sum-zero, sum-suc, sum-append, count-cong, count-le}
 use Rattle.mask.specs.Mask.{in_mask, mask_words}
@@ -25,9 +25,7 @@ use Rattle.pattern.proofs.Counting.{kept-within}
 use Rattle.binding.specs.Binding.{row_faults, binding_check}
 use Rattle.binding.specs.Steps.{row_sources, row_counts, counts_of, sources_inside}
 use Rattle.binding.specs.declared.RowCounts.{RowCounts}
-use Rattle.binding.specs.declared.RowBinding.{RowBinding}
 use Rattle.binding.specs.declared.Counts.{Counts}
-use Rattle.binding.specs.declared.Binding.{Binding}
 use Rattle.binding.proofs.Answers.{row-passes, row-stops}
 use Rattle.binding.proofs.Rows.{row-agrees, Checking, check_first, check_stop, check_turn, check_last}
 
@@ -57,18 +55,18 @@ module _ (p : ℕ → Bool) (from : ℕ) where
 -- ---- a row
 
 -- a row that binds, from its two counts
-pub row-bound : (n : ℕ) (p : ℕ → Bool) (s : ℕ → ℕ → Bool) (ptr cols : List ℕ) (r a b : ℕ) (x : Checked) → x ≡ row_faults n p (s r) (stored ptr cols r) → x ≡ Accepted
+pub row-bound : (n : ℕ) (p : ℕ → Bool) (s : ℕ → ℕ → Bool) (ptr cols : List ℕ) (r a b : ℕ) (x : Check) → x ≡ row_faults n p (s r) (stored ptr cols r) → x ≡ Ok tt
     → a ≡ count_below n (inside p s r) → b ≡ row_sources p ptr cols r
-    → RowBinding.Bound (record { pairs = a; sources = b }) ≡ after (row_faults n p (s r) (stored ptr cols r)) (RowBinding.Bound (row_counts n p s ptr cols r)) RowBinding.Refused
+    → Ok (record { pairs = a; sources = b }) ≡ answer (row_faults n p (s r) (stored ptr cols r)) (row_counts n p s ptr cols r)
 row-bound n p s ptr cols r a b x e h f g =
-    on-accepted (row_faults n p (s r) (stored ptr cols r)) (RowBinding.Bound (row_counts n p s ptr cols r)) _ RowBinding.Refused (sym e ∙ h)
-    (ap₂ (λ (x y : ℕ). RowBinding.Bound (record { pairs = x; sources = y })) f g)
+    on-accepted (row_faults n p (s r) (stored ptr cols r)) (Ok (row_counts n p s ptr cols r)) _ Err (sym e ∙ h)
+    (ap₂ (λ (x y : ℕ). Ok (record { pairs = x; sources = y })) f g)
 
 -- a row whose pairs are its entries
 pub row-follows : (n : ℕ) (p : ℕ → Bool) (s : ℕ → ℕ → Bool) (ptr cols : List ℕ) (r a b : ℕ)
     → ((c : ℕ) → c < n → s r c ≡ stored ptr cols r c) × (a ≡ count_below n (inside p s r)) × (b ≡ row_sources p ptr cols r)
-    → RowBinding.Bound (record { pairs = a; sources = b }) ≡ after (row_faults n p (s r) (stored ptr cols r)) (RowBinding.Bound (row_counts n p s ptr cols r)) RowBinding.Refused
-row-follows n p s ptr cols r a b run = row-bound n p s ptr cols r a b Accepted (sym (row-agrees n p (s r) (stored ptr cols r) run.0)) refl run.1 run.2
+    → Ok (record { pairs = a; sources = b }) ≡ answer (row_faults n p (s r) (stored ptr cols r)) (row_counts n p s ptr cols r)
+row-follows n p s ptr cols r a b run = row-bound n p s ptr cols r a b (Ok tt) (sym (row-agrees n p (s r) (stored ptr cols r) run.0)) refl run.1 run.2
 
 -- ---- over the members' rows
 
@@ -120,8 +118,8 @@ module _ (n : ℕ) (region word_ptr idx masks ptr cols : List ℕ) where
   abbrev sources : ℕ → ℕ
   sources r = row_sources p ptr cols r
 
-  abbrev answer : Binding
-  answer = after (binding_check n p s entries) (Binding.Bound (counts_of n p s ptr cols)) Binding.Refused
+  abbrev bound : Result Counts Refusal
+  bound = answer (binding_check n p s entries) (counts_of n p s ptr cols)
 
   -- the rows of the members below r pass and are counted
   pub record Settling (seen : List ℕ) (m a b r : ℕ) : Type 0 where
@@ -139,24 +137,24 @@ module _ (n : ℕ) (region word_ptr idx masks ptr cols : List ℕ) where
         by_sources = sum_first n region r sources next;
       }
 
-  pub settle_last : (seen : List ℕ) (m a b r : ℕ) → Settling seen m a b r → n ≤ r → Binding.Bound (record { members = m; pairs = a; sources = b }) ≡ answer
+  pub settle_last : (seen : List ℕ) (m a b r : ℕ) → Settling seen m a b r → n ≤ r → Ok (record { members = m; pairs = a; sources = b }) ≡ bound
   unfolding pairs_inside
   settle_last seen m a b r inv l =
       let e : r ≡ n = omega (arith, inv.checked.within) in
-      on-accepted (binding_check n p s entries) (Binding.Bound (counts_of n p s ptr cols)) _ Binding.Refused (sym (check_last n region s entries seen r inv.checked l))
-      (ap Binding.Bound
+      on-accepted (binding_check n p s entries) (Ok (counts_of n p s ptr cols)) _ Err (sym (check_last n region s entries seen r inv.checked l))
+      (ap Ok
       (same-counts m _ a _ b _ (inv.members ∙ ap (λ (k : ℕ). count_below k p) e) (inv.by_pairs ∙ ap (λ (k : ℕ). sum_over k p pairs) e) (inv.by_sources ∙ ap (λ (k : ℕ). sum_over k p sources) e)))
 
-  module _ (seen : List ℕ) (m a b r : ℕ) (inv : Settling seen m a b r) (l : r < n) (x : RowBinding)
-      (is : x ≡ after (row_faults n p (s r) (entries r)) (RowBinding.Bound (row_counts n p s ptr cols r)) RowBinding.Refused) where
-    pub stop_check : (f : Refusal) → x ≡ RowBinding.Refused f → binding_check n p s entries ≡ Refused f
+  module _ (seen : List ℕ) (m a b r : ℕ) (inv : Settling seen m a b r) (l : r < n) (x : Result RowCounts Refusal)
+      (is : x ≡ answer (row_faults n p (s r) (entries r)) (row_counts n p s ptr cols r)) where
+    pub stop_check : (f : Refusal) → x ≡ Err f → binding_check n p s entries ≡ Err f
     stop_check f told = sym (check_stop n region s entries seen r inv.checked l _ f refl (row-stops _ (row_counts n p s ptr cols r) f (sym told ∙ is)))
 
-    pub settle_stop : (f : Refusal) → x ≡ RowBinding.Refused f → Binding.Refused f ≡ answer
-    settle_stop f told = on-refused (binding_check n p s entries) f (Binding.Bound (counts_of n p s ptr cols)) Binding.Refused (stop_check f told)
+    pub settle_stop : (f : Refusal) → x ≡ Err f → Err f ≡ bound
+    settle_stop f told = on-refused (binding_check n p s entries) f (Ok (counts_of n p s ptr cols)) Err (stop_check f told)
 
-    module _ (row : RowCounts) (told : x ≡ RowBinding.Bound row) where
-      fine : (row_faults n p (s r) (entries r) ≡ Accepted) × (row ≡ row_counts n p s ptr cols r)
+    module _ (row : RowCounts) (told : x ≡ Ok row) where
+      fine : (row_faults n p (s r) (entries r) ≡ Ok tt) × (row ≡ row_counts n p s ptr cols r)
       fine = row-passes (row_faults n p (s r) (entries r)) (row_counts n p s ptr cols r) row (sym told ∙ is)
 
       pub row_pairs : row.pairs ≡ pairs r

@@ -2,6 +2,7 @@
 // row whose words are its entries in order is settled and counted by reading both once. The entries of any other are collected in a mask, `seen`,
 // that is empty before and after each row. Either way a row costs its words and its entries.
 ghost use Rattle.std.specs.Prelude.{◌≡◌, true, false, not, cond, ◌&&◌, ◌||◌, ℕ, ◌+◌, ◌-◌, ◌≤◌, ◌<◌, T, ltb, length, get_or};
+ghost use Rattle.base.specs.Checks.{answer};
 ghost use Rattle.std.proofs.Math.Seq.{slice};
 ghost use Rattle.base.specs.Checks.{entry_limit, after};
 ghost use Rattle.base.specs.Lists.{is_in};
@@ -15,8 +16,8 @@ ghost use Rattle.pattern.specs.Pattern.{inside};
 ghost use Rattle.binding.specs.Binding.{row_faults, binding_check};
 ghost use Rattle.binding.specs.Steps.{Entries, RunOf, Followed, has_pair, row_counts, counts_of, sources_inside};
 
-use crate::{Binding, Counts, MembersRun, RowBinding, RowCounts, RowRun, Run};
-use base::Checked;
+use crate::{Counts, MembersRun, RowCounts, RowRun, Run};
+use base::Refusal;
 use word::AbtmTopologyWord;
 
 // The entries from `from` on that lie in the word, up to the first that does not; `inside` is the region's word. A column is a pair at its first
@@ -250,7 +251,7 @@ fn check_row(
     region: &[u64],
     r: usize,
     seen: &mut [u64],
-) -> Checked
+) -> Result<(), Refusal>
     requires { IsSide n n row_word_ptr.now word_indices.now masks.now × IsMatrix n n row_ptr.now col_idx.now × IsMask n region.now × (r < n) × (seen.old ≡ mask_words n (λ i. false)) }
     ensures value { result ≡ row_faults n (in_mask region.now) (side_holds row_word_ptr.now word_indices.now masks.now r) (stored row_ptr.now col_idx.now r) }
     ensures seen_after { seen.new ≡ mask_words n (λ i. false) }
@@ -261,12 +262,12 @@ fn check_row(
     let missing = take_row(n, row_word_ptr, word_indices, masks, region, r, seen);
     let extra = drain(n, col_idx, from, to, region, seen);
     if missing {
-        return base::refused(23);
+        return Err(Refusal::PairWithoutEntry);
     }
     if extra {
-        return base::refused(24);
+        return Err(Refusal::EntryWithoutPair);
     }
-    Checked::Accepted
+    Ok(())
 }
 
 // How many of the entries from..to have their column inside the region.
@@ -312,9 +313,9 @@ fn settle_row(
     region: &[u64],
     r: usize,
     seen: &mut [u64],
-) -> RowBinding
+) -> Result<RowCounts, Refusal>
     requires { IsSide n n row_word_ptr.now word_indices.now masks.now × IsMatrix n n row_ptr.now col_idx.now × IsMask n region.now × (r < n) × (seen.old ≡ mask_words n (λ i. false)) }
-    ensures value { result ≡ after (row_faults n (in_mask region.now) (side_holds row_word_ptr.now word_indices.now masks.now r) (stored row_ptr.now col_idx.now r)) (RowBinding.Bound (row_counts n (in_mask region.now) (side_holds row_word_ptr.now word_indices.now masks.now) row_ptr.now col_idx.now r)) RowBinding.Refused }
+    ensures value { result ≡ answer (row_faults n (in_mask region.now) (side_holds row_word_ptr.now word_indices.now masks.now r) (stored row_ptr.now col_idx.now r)) (row_counts n (in_mask region.now) (side_holds row_word_ptr.now word_indices.now masks.now) row_ptr.now col_idx.now r) }
     ensures seen_after { seen.new ≡ mask_words n (λ i. false) }
 {
     let run = follow(
@@ -328,12 +329,12 @@ fn settle_row(
         r,
     );
     if run.same {
-        return RowBinding::Bound(RowCounts {
+        return Ok(RowCounts {
             pairs: run.pairs,
             sources: run.sources,
         });
     }
-    match check_row(
+    check_row(
         n,
         row_word_ptr,
         word_indices,
@@ -343,18 +344,14 @@ fn settle_row(
         region,
         r,
         seen,
-    ) {
-        Checked::Refused(f) => RowBinding::Refused(f),
-        Checked::Accepted => {
-            let from = row_ptr[r] as usize;
-            let to = row_ptr[r + 1] as usize;
-            let row = pattern::inner::count_row(n, row_word_ptr, word_indices, masks, region, r);
-            RowBinding::Bound(RowCounts {
-                pairs: row.kept,
-                sources: count_inside(n, region, col_idx, from, to),
-            })
-        }
-    }
+    )?;
+    let from = row_ptr[r] as usize;
+    let to = row_ptr[r + 1] as usize;
+    let row = pattern::inner::count_row(n, row_word_ptr, word_indices, masks, region, r);
+    Ok(RowCounts {
+        pairs: row.kept,
+        sources: count_inside(n, region, col_idx, from, to),
+    })
 }
 
 // Row r is marked where it has a pair. A bit or none is stored each time: which it is follows no order, and a store that hangs on it costs more.
@@ -381,7 +378,7 @@ fn follow_members(
     paired: &mut [u64],
 ) -> MembersRun
     requires { IsSide n n row_word_ptr.now word_indices.now masks.now × IsMatrix n n row_ptr.now col_idx.now × IsMask n region.now × (paired.old ≡ mask_words n (λ i. false)) }
-    ensures col_idx_value { result.same ≡ true → (binding_check n (in_mask region.now) (side_holds row_word_ptr.now word_indices.now masks.now) (stored row_ptr.now col_idx.now) ≡ Checked.Accepted) × (result.counts ≡ counts_of n (in_mask region.now) (side_holds row_word_ptr.now word_indices.now masks.now) row_ptr.now col_idx.now) }
+    ensures col_idx_value { result.same ≡ true → (binding_check n (in_mask region.now) (side_holds row_word_ptr.now word_indices.now masks.now) (stored row_ptr.now col_idx.now) ≡ Ok tt) × (result.counts ≡ counts_of n (in_mask region.now) (side_holds row_word_ptr.now word_indices.now masks.now) row_ptr.now col_idx.now) }
     ensures marks { result.same ≡ true → paired.new ≡ mask_words n (has_pair n (in_mask region.now) (side_holds row_word_ptr.now word_indices.now masks.now)) }
 {
     let mut members: usize = 0;
@@ -436,17 +433,17 @@ fn settle_members(
     region: &[u64],
     paired: &mut [u64],
     seen: &mut [u64],
-) -> Binding
+) -> Result<Counts, Refusal>
     requires { IsSide n n row_word_ptr.now word_indices.now masks.now × IsMatrix n n row_ptr.now col_idx.now × IsMask n region.now × (paired.old ≡ mask_words n (λ i. false)) × (seen.old ≡ mask_words n (λ i. false)) }
-    ensures value { result ≡ after (binding_check n (in_mask region.now) (side_holds row_word_ptr.now word_indices.now masks.now) (stored row_ptr.now col_idx.now)) (Binding.Bound (counts_of n (in_mask region.now) (side_holds row_word_ptr.now word_indices.now masks.now) row_ptr.now col_idx.now)) Binding.Refused }
-    ensures marks { binding_check n (in_mask region.now) (side_holds row_word_ptr.now word_indices.now masks.now) (stored row_ptr.now col_idx.now) ≡ Checked.Accepted → paired.new ≡ mask_words n (has_pair n (in_mask region.now) (side_holds row_word_ptr.now word_indices.now masks.now)) }
+    ensures value { result ≡ answer (binding_check n (in_mask region.now) (side_holds row_word_ptr.now word_indices.now masks.now) (stored row_ptr.now col_idx.now)) (counts_of n (in_mask region.now) (side_holds row_word_ptr.now word_indices.now masks.now) row_ptr.now col_idx.now) }
+    ensures marks { binding_check n (in_mask region.now) (side_holds row_word_ptr.now word_indices.now masks.now) (stored row_ptr.now col_idx.now) ≡ Ok tt → paired.new ≡ mask_words n (has_pair n (in_mask region.now) (side_holds row_word_ptr.now word_indices.now masks.now)) }
 {
     let mut members: usize = 0;
     let mut pairs: usize = 0;
     let mut sources: usize = 0;
     let mut r = mask::inner::next_member(n, region, 0);
     while r < n {
-        match settle_row(
+        let row = settle_row(
             n,
             row_word_ptr,
             word_indices,
@@ -456,20 +453,14 @@ fn settle_members(
             region,
             r,
             seen,
-        ) {
-            RowBinding::Refused(f) => {
-                return Binding::Refused(f);
-            }
-            RowBinding::Bound(row) => {
-                members += 1;
-                pairs += row.pairs;
-                sources += row.sources;
-                mark_row(n, r, row.pairs, paired);
-                r = mask::inner::next_member(n, region, r + 1);
-            }
-        }
+        )?;
+        members += 1;
+        pairs += row.pairs;
+        sources += row.sources;
+        mark_row(n, r, row.pairs, paired);
+        r = mask::inner::next_member(n, region, r + 1);
     }
-    Binding::Bound(Counts {
+    Ok(Counts {
         members,
         pairs,
         sources,
@@ -486,10 +477,10 @@ fn settle(
     col_idx: &[u32],
     region: &[u64],
     paired: &mut [u64],
-) -> Binding
+) -> Result<Counts, Refusal>
     requires { IsSide n n row_word_ptr.now word_indices.now masks.now × IsMatrix n n row_ptr.now col_idx.now × IsMask n region.now × (paired.old ≡ mask_words n (λ i. false)) }
-    ensures value { result ≡ after (binding_check n (in_mask region.now) (side_holds row_word_ptr.now word_indices.now masks.now) (stored row_ptr.now col_idx.now)) (Binding.Bound (counts_of n (in_mask region.now) (side_holds row_word_ptr.now word_indices.now masks.now) row_ptr.now col_idx.now)) Binding.Refused }
-    ensures marks { binding_check n (in_mask region.now) (side_holds row_word_ptr.now word_indices.now masks.now) (stored row_ptr.now col_idx.now) ≡ Checked.Accepted → paired.new ≡ mask_words n (has_pair n (in_mask region.now) (side_holds row_word_ptr.now word_indices.now masks.now)) }
+    ensures value { result ≡ answer (binding_check n (in_mask region.now) (side_holds row_word_ptr.now word_indices.now masks.now) (stored row_ptr.now col_idx.now)) (counts_of n (in_mask region.now) (side_holds row_word_ptr.now word_indices.now masks.now) row_ptr.now col_idx.now) }
+    ensures marks { binding_check n (in_mask region.now) (side_holds row_word_ptr.now word_indices.now masks.now) (stored row_ptr.now col_idx.now) ≡ Ok tt → paired.new ≡ mask_words n (has_pair n (in_mask region.now) (side_holds row_word_ptr.now word_indices.now masks.now)) }
 {
     let mut seen: [u64; 16384] = [0; 16384];
     let need = mask::inner::words_for(n);
@@ -517,10 +508,10 @@ pub fn bind_rows(
     col_idx: &[u32],
     region: &[u64],
     paired: &mut [u64],
-) -> Binding
+) -> Result<Counts, Refusal>
     requires { IsSide n n row_word_ptr.now word_indices.now masks.now × IsMatrix n n row_ptr.now col_idx.now × IsMask n region.now × (paired.old ≡ mask_words n (λ i. false)) }
-    ensures value { result ≡ after (binding_check n (in_mask region.now) (side_holds row_word_ptr.now word_indices.now masks.now) (stored row_ptr.now col_idx.now)) (Binding.Bound (counts_of n (in_mask region.now) (side_holds row_word_ptr.now word_indices.now masks.now) row_ptr.now col_idx.now)) Binding.Refused }
-    ensures marks { binding_check n (in_mask region.now) (side_holds row_word_ptr.now word_indices.now masks.now) (stored row_ptr.now col_idx.now) ≡ Checked.Accepted → paired.new ≡ mask_words n (has_pair n (in_mask region.now) (side_holds row_word_ptr.now word_indices.now masks.now)) }
+    ensures value { result ≡ answer (binding_check n (in_mask region.now) (side_holds row_word_ptr.now word_indices.now masks.now) (stored row_ptr.now col_idx.now)) (counts_of n (in_mask region.now) (side_holds row_word_ptr.now word_indices.now masks.now) row_ptr.now col_idx.now) }
+    ensures marks { binding_check n (in_mask region.now) (side_holds row_word_ptr.now word_indices.now masks.now) (stored row_ptr.now col_idx.now) ≡ Ok tt → paired.new ≡ mask_words n (has_pair n (in_mask region.now) (side_holds row_word_ptr.now word_indices.now masks.now)) }
 {
     let run = follow_members(
         n,
@@ -534,7 +525,7 @@ pub fn bind_rows(
     );
     if run.same {
         let counts = run.counts;
-        return Binding::Bound(counts);
+        return Ok(counts);
     }
     mask::inner::clear(n, paired);
     settle(
@@ -558,9 +549,9 @@ pub fn bind(
     row_ptr: &[u32],
     col_idx: &[u32],
     region: &[u64],
-) -> Binding
+) -> Result<Counts, Refusal>
     requires { IsSide n n row_word_ptr.now word_indices.now masks.now × IsMatrix n n row_ptr.now col_idx.now × IsMask n region.now }
-    ensures { result ≡ after (binding_check n (in_mask region.now) (side_holds row_word_ptr.now word_indices.now masks.now) (stored row_ptr.now col_idx.now)) (Binding.Bound (counts_of n (in_mask region.now) (side_holds row_word_ptr.now word_indices.now masks.now) row_ptr.now col_idx.now)) Binding.Refused }
+    ensures { result ≡ answer (binding_check n (in_mask region.now) (side_holds row_word_ptr.now word_indices.now masks.now) (stored row_ptr.now col_idx.now)) (counts_of n (in_mask region.now) (side_holds row_word_ptr.now word_indices.now masks.now) row_ptr.now col_idx.now) }
 {
     let mut paired: [u64; 16384] = [0; 16384];
     let need = mask::inner::words_for(n);

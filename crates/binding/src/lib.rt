@@ -32,12 +32,6 @@ pub struct RowCounts {
     pub sources: usize,
 }
 
-#[derive(Clone, Copy)]
-pub enum RowBinding {
-    Bound(RowCounts),
-    Refused(Refusal),
-}
-
 // What the members' rows hold inside the region.
 #[derive(Clone, Copy)]
 pub struct Counts {
@@ -51,10 +45,4 @@ pub struct Counts {
 pub struct MembersRun {
     pub same: bool,
     pub counts: Counts,
-}
-
-#[derive(Clone, Copy)]
-pub enum Binding {
-    Bound(Counts),
-    Refused(Refusal),
 }

@@ -1,5 +1,7 @@
 -- What the building of a topology and of a layout leaves meets the conditions of demand 3, so that the claim holds of it. Assumes nothing.
 use mathlib.Core.Path.{◌≡◌, refl, sym, ap, ap₂, ◌∙◌, subst}
+use Rattle.std.specs.Prelude.{Ok}
+use Rattle.base.specs.Checks.{Check}
 use mathlib.Core.Logic.{⊎_elim}
 use mathlib.Core.Bool.{Bool, ◌&&◌}
 use mathlib.Core.List.{List}
@@ -10,7 +12,6 @@ use lib.Ieee.{Float}
 use lib.ListN.{length, get_or, take, get_or-eq_default}
 use Rattle.base.specs.Checks.{leaves}
 use Rattle.base.specs.Lists.{over, over_with_zeros}
-use Rattle.base.specs.declared.Checked.{Checked}
 use Rattle.base.proofs.Bools.{lt-or-le}
 use Rattle.base.proofs.Checks.{group-pass, last-pass, both-passed}
 use Rattle.base.proofs.Lists.{length-list_from, over-own, zeros-own}
@@ -59,7 +60,7 @@ side-bits nrows ncols ptr idx masks s w =
     ⊎_elim (λ h. s.fits w h) (λ h. subst (λ (x : ℕ). x < 2 ^ 64) (sym (get_or-eq_default masks 0 h)) (omega arith)) (lt-or-le w (length masks))
 
 module _ (n : ℕ) (ptr cols : List ℕ) (values : List Float) (len : ℕ) (seeds : List ℕ) where
-  pub built : matrix_check n n ptr cols values ≡ Checked.Accepted → length_check n len seeds ≡ Checked.Accepted → ((w : ℕ) → get_or seeds w 0 < 2 ^ 64) → Accepts (built_of n ptr cols values len seeds)
+  pub built : matrix_check n n ptr cols values ≡ Ok tt → length_check n len seeds ≡ Ok tt → ((w : ℕ) → get_or seeds w 0 < 2 ^ 64) → Accepts (built_of n ptr cols values len seeds)
   built matrix mask bits =
       let is : IsMatrix n n ptr cols = (accepted n n ptr cols values matrix).matrix in
       let t = built-topology n n ptr cols is in
@@ -75,7 +76,7 @@ module _ (n : ℕ) (ptr cols : List ℕ) (values : List Float) (len : ℕ) (seed
 
   -- what from_csr32 leaves in the lists that it is lent, handed on with exactly its own pointers, words and masks
   module _ (rptr ridx rmasks cptr cidx cmasks starts order : List ℕ) where
-    abbrev check : Checked
+    abbrev check : Check
     check = build_check n n ptr cols values rptr ridx rmasks cptr cidx cmasks starts order
 
     abbrev counts : TopologyCounts
@@ -100,7 +101,7 @@ module _ (n : ℕ) (ptr cols : List ℕ) (values : List Float) (len : ℕ) (seed
           seeds = seeds;
         }
 
-    pub left-built : check ≡ Checked.Accepted → left_of ≡ built_of n ptr cols values len seeds
+    pub left-built : check ≡ Ok tt → left_of ≡ built_of n ptr cols values len seeds
     unfolding build_check
     left-built e =
         let is : IsMatrix n n ptr cols = (accepted n n ptr cols values (both-passed _ _ e).0).matrix in
@@ -115,36 +116,36 @@ module _ (n : ℕ) (ptr cols : List ℕ) (values : List Float) (len : ℕ) (seed
       where
         pointers : (s : ℕ → ℕ → Bool) (out : List ℕ) → take (n + 1) (built_ptr check n n s out) ≡ side_ptr n n s
         pointers s out =
-            ap (λ (t : Checked). take (n + 1) (built_ptr t n n s out)) e
+            ap (λ (t : Check). take (n + 1) (built_ptr t n n s out)) e
             ∙ over-own (side_ptr n n s) out (n + 1) (length-list_from (λ r. length (side_words r n s)) (n + 1) 0)
 
         own-part : (X out : List ℕ) (m : ℕ) → length X ≡ m → take m (leaves check (over_with_zeros X (length cols) out) out) ≡ X
         own-part X out m h =
-            ap (λ (t : Checked). take m (leaves t (over_with_zeros X (length cols) out) out)) e ∙ zeros-own X out m (length cols) h
+            ap (λ (t : Check). take m (leaves t (over_with_zeros X (length cols) out) out)) e ∙ zeros-own X out m (length cols) h
 
 -- ---- layout
 
 module _ (kinds ids fields components : List ℕ) where
   -- its offsets are accepted with it, and 18 does not refuse it
-  pub laid_out : (n : ℕ) → blocks_check kinds ids fields components ≡ Checked.Accepted → total_of components ≡ n
-      → square_check kinds ids fields components (offsets_of components) n n ≡ Checked.Accepted
+  pub laid_out : (n : ℕ) → blocks_check kinds ids fields components ≡ Ok tt → total_of components ≡ n
+      → square_check kinds ids fields components (offsets_of components) n n ≡ Ok tt
   unfolding square_check
   laid_out n e total =
       let both = eq-eqb n (total_of components) (sym total) in
       sym (group-pass _ _ _ (layouts.built-accepted kinds ids fields components e) (last-pass _ _ _ (ap₂ ◌&&◌ both both) refl))
 
   -- they are what `new` leaves in the list that it is lent, handed on with exactly its own
-  pub left-offsets : (out : List ℕ) → new_check kinds ids fields components out ≡ Checked.Accepted → take (length kinds + 1) (new_offsets kinds ids fields components out) ≡ offsets_of components
+  pub left-offsets : (out : List ℕ) → new_check kinds ids fields components out ≡ Ok tt → take (length kinds + 1) (new_offsets kinds ids fields components out) ≡ offsets_of components
   unfolding new_check offsets_of
   left-offsets out e =
       let as_many : suc (length components) ≡ length kinds + 1 = omega (arith, (layouts.accepted-blocks kinds ids fields components (both-passed _ _ e).0).components_length) in
-      ap (λ (t : Checked). take (length kinds + 1) (leaves t (over (offsets_of components) out) out)) e
+      ap (λ (t : Check). take (length kinds + 1) (leaves t (over (offsets_of components) out) out)) e
       ∙ over-own (offsets_of components) out (length kinds + 1) (length-list_from (start_of components) (suc (length components)) 0 ∙ as_many)
 
 -- ---- the claim
 
 module _ (n : ℕ) (ptr cols : List ℕ) (values : List Float) (len : ℕ) (seeds : List ℕ)
-    (matrix : matrix_check n n ptr cols values ≡ Checked.Accepted) (mask : length_check n len seeds ≡ Checked.Accepted) (bits : (w : ℕ) → get_or seeds w 0 < 2 ^ 64) (cs : List Growth) where
+    (matrix : matrix_check n n ptr cols values ≡ Ok tt) (mask : length_check n len seeds ≡ Ok tt) (bits : (w : ℕ) → get_or seeds w 0 < 2 ^ 64) (cs : List Growth) where
   abbrev S : System
   S = built_of n ptr cols values len seeds
 
@@ -154,6 +155,6 @@ module _ (n : ℕ) (ptr cols : List ℕ) (values : List Float) (len : ℕ) (seed
   pub demand-3-plain : Claim S (plain_ground (topology_of S) n (pairs_of S) len) cs
   demand-3-plain = demand-3-built _ Kind.plain
 
-  pub demand-3-field : (kinds ids fields components : List ℕ) → blocks_check kinds ids fields components ≡ Checked.Accepted → total_of components ≡ n
+  pub demand-3-field : (kinds ids fields components : List ℕ) → blocks_check kinds ids fields components ≡ Ok tt → total_of components ≡ n
       → Claim S (field_ground (topology_of S) (square_check kinds ids fields components (offsets_of components) n n) components (pairs_of S) len) cs
   demand-3-field kinds ids fields components e total = demand-3-built _ (Kind.field kinds ids fields components (offsets_of components) (laid_out kinds ids fields components n e total))

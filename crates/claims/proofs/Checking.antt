@@ -1,5 +1,8 @@
 -- The checks of a run: 23 and 24 over all rows, and what acceptance gives. Assumes nothing.
 use mathlib.Core.Path.{◌≡◌, refl, sym, ap, ap₂, ◌∙◌, subst}
+use Rattle.std.specs.Prelude.{Ok, Err}
+use Rattle.base.specs.Checks.{Check}
+use Rattle.base.specs.declared.Refusal.TheVariants.{PairWithoutEntry, EntryWithoutPair, WrongLength}
 use mathlib.Core.Bool.{Bool, true, false, not, cond, ◌&&◌, ◌||◌}
 use mathlib.Core.List.{List}
 use Prim.Native.Nat.{ℕ, zero, suc, ◌^◌, ◌≤◌, ◌<◌}
@@ -8,9 +11,8 @@ use borrow.Author.Tests.{eqb-true, lt-ltb, le-leb}
 use lib.Dec.{eqb}
 use lib.Ieee.{Float}
 use lib.ListN.{length, get_or}
-use Rattle.base.specs.Checks.{must, must_be, refusal_of_length, ◌then◌, checks_below, side_limit}
+use Rattle.base.specs.Checks.{must, must_be, ◌then◌, checks_below, side_limit}
 use Rattle.base.specs.Sets.{between, count_below}
-use Rattle.base.specs.declared.Checked.{Checked}
 use Rattle.base.proofs.Checks.{both-passed, passed, length-passed}
 use Rattle.base.proofs.Sets.{any-cong, count-cong, members-ext}
 use Rattle.mask.specs.Mask.{in_mask, length_check, IsMask}
@@ -29,17 +31,17 @@ use Rattle.claims.specs.Run.{square_topology, pairs_check, arrays_check, run_che
 
 -- ---- a length as the last check
 
-pub last-length : (e a : ℕ) (r : Checked) → eqb a e ≡ true → r ≡ Checked.Accepted → r ≡ must_be e a
-unfolding must_be
-last-length e a r t h = h ∙ ap (λ (b : Bool). cond b Checked.Accepted (Checked.Refused (refusal_of_length e a))) (sym t)
+pub last-length : (e a : ℕ) (r : Check) → eqb a e ≡ true → r ≡ Ok tt → r ≡ must_be e a
+unfolding must_be must
+last-length e a r t h = h ∙ ap (λ (b : Bool). must b (WrongLength e a)) (sym t)
 
-pub last-wrong : (e a : ℕ) (r : Checked) → eqb a e ≡ false → r ≡ Checked.Refused (refusal_of_length e a) → r ≡ must_be e a
-unfolding must_be
-last-wrong e a r t h = h ∙ ap (λ (b : Bool). cond b Checked.Accepted (Checked.Refused (refusal_of_length e a))) (sym t)
+pub last-wrong : (e a : ℕ) (r : Check) → eqb a e ≡ false → r ≡ Err (WrongLength e a) → r ≡ must_be e a
+unfolding must_be must
+last-wrong e a r t h = h ∙ ap (λ (b : Bool). must b (WrongLength e a)) (sym t)
 
 -- ---- 23 and 24 go by the members below the side alone
 
-checks-cong : (n : ℕ) (f g : ℕ → Checked) → ((k : ℕ) → f k ≡ g k) → checks_below n f ≡ checks_below n g
+checks-cong : (n : ℕ) (f g : ℕ → Check) → ((k : ℕ) → f k ≡ g k) → checks_below n f ≡ checks_below n g
 unfolding checks_below
 checks-cong zero f g e = refl
 checks-cong (suc n) f g e = ap₂ ◌then◌ (checks-cong n f g e) (e n)
@@ -48,7 +50,7 @@ module _ (n : ℕ) (p q : ℕ → Bool) (same : (i : ℕ) → i < n → p i ≡ 
   faults-cong : (a b : ℕ → Bool) → row_faults n p a b ≡ row_faults n q a b
   unfolding row_faults
   faults-cong a b =
-      ap₂ (λ (x y : Bool). must (not x) 23 then must (not y) 24)
+      ap₂ (λ (x y : Bool). must (not x) PairWithoutEntry then must (not y) EntryWithoutPair)
       (any-cong n (λ c. p c && a c && not (b c)) (λ c. q c && a c && not (b c)) (λ c l. ap (λ (t : Bool). t && a c && not (b c)) (same c l)))
       (any-cong n (λ c. p c && b c && not (a c)) (λ c. q c && b c && not (a c)) (λ c l. ap (λ (t : Bool). t && b c && not (a c)) (same c l)))
 
@@ -82,13 +84,13 @@ module _ (n : ℕ) (none all : List ℕ) (e : all ≡ with_range n none 0 n) whe
 
 -- ---- what acceptance gives
 
-pub record Sides (topology : Checked) (nrows ncols rows cols : ℕ) : Type 0 where
-  pub topology_ok : topology ≡ Checked.Accepted
+pub record Sides (topology : Check) (nrows ncols rows cols : ℕ) : Type 0 where
+  pub topology_ok : topology ≡ Ok tt
   pub as_rows : nrows ≡ rows
   pub as_cols : nrows ≡ cols
   pub square : nrows ≡ ncols
 
-pub accepted-sides : (topology : Checked) (nrows ncols rows cols : ℕ) → square_topology topology nrows ncols rows cols ≡ Checked.Accepted → Sides topology nrows ncols rows cols
+pub accepted-sides : (topology : Check) (nrows ncols rows cols : ℕ) → square_topology topology nrows ncols rows cols ≡ Ok tt → Sides topology nrows ncols rows cols
 unfolding square_topology sides_check
 accepted-sides topology nrows ncols rows cols e =
     let a = both-passed _ _ e in
@@ -100,32 +102,32 @@ accepted-sides topology nrows ncols rows cols e =
 -- the rows side and the matrix are of one side
 pub one_side : (nrows ncols : ℕ) (ptr idx masks : List ℕ) (pairs nrows2 ncols2 : ℕ) (ptr2 idx2 masks2 : List ℕ) (pairs2 rows cols : ℕ) (row_ptr col-idx : List ℕ) (values : List Float)
     → ((k : ℕ) → get_or masks k 0 < 2 ^ 64) → ((k : ℕ) → get_or masks2 k 0 < 2 ^ 64)
-    → matrix_check rows cols row_ptr col-idx values ≡ Checked.Accepted → Sides (topology_check nrows ncols ptr idx masks pairs nrows2 ncols2 ptr2 idx2 masks2 pairs2) nrows ncols rows cols
+    → matrix_check rows cols row_ptr col-idx values ≡ Ok tt → Sides (topology_check nrows ncols ptr idx masks pairs nrows2 ncols2 ptr2 idx2 masks2 pairs2) nrows ncols rows cols
     → IsSide nrows nrows ptr idx masks × IsMatrix nrows nrows row_ptr col-idx
 one_side nrows ncols ptr idx masks pairs nrows2 ncols2 ptr2 idx2 masks2 pairs2 rows cols row_ptr col-idx values fits fits2 m s =
     let t = accepted-topology nrows ncols ptr idx masks pairs nrows2 ncols2 ptr2 idx2 masks2 pairs2 fits fits2 s.topology_ok in
     ((subst (λ (n : ℕ). IsTopology nrows n ptr idx masks ptr2 idx2 masks2) (sym s.square) t.topology).rows, square-matrix rows cols nrows row_ptr col-idx s.as_rows s.as_cols (accepted rows cols row_ptr col-idx values m).matrix)
 
 pub record Arrays (n len : ℕ) (seeds : List ℕ) (s entries : ℕ → ℕ → Bool) (hops rooms : List ℕ) : Type 0 where
-  pub mask : length_check n len seeds ≡ Checked.Accepted
-  pub pairs : pairs_check n s entries ≡ Checked.Accepted
+  pub mask : length_check n len seeds ≡ Ok tt
+  pub pairs : pairs_check n s entries ≡ Ok tt
   pub one_each : length rooms ≡ length hops
 
-pub accepted-arrays : (n len : ℕ) (seeds : List ℕ) (s entries : ℕ → ℕ → Bool) (hops rooms : List ℕ) → arrays_check n len seeds s entries hops rooms ≡ Checked.Accepted → Arrays n len seeds s entries hops rooms
+pub accepted-arrays : (n len : ℕ) (seeds : List ℕ) (s entries : ℕ → ℕ → Bool) (hops rooms : List ℕ) → arrays_check n len seeds s entries hops rooms ≡ Ok tt → Arrays n len seeds s entries hops rooms
 unfolding arrays_check
 accepted-arrays n len seeds s entries hops rooms e =
     let a = both-passed _ _ e in
     let b = both-passed _ _ a.1 in
     record { mask = a.0; pairs = b.0; one_each = length-passed (length hops) (length rooms) b.1 }
 
-pub accepted-run : (matrix sides arrays : Checked) → run_check matrix sides arrays ≡ Checked.Accepted → (matrix ≡ Checked.Accepted) × (sides ≡ Checked.Accepted) × (arrays ≡ Checked.Accepted)
+pub accepted-run : (matrix sides arrays : Check) → run_check matrix sides arrays ≡ Ok tt → (matrix ≡ Ok tt) × (sides ≡ Ok tt) × (arrays ≡ Ok tt)
 unfolding run_check
 accepted-run matrix sides arrays e =
     let a = both-passed _ _ e in
     let b = both-passed _ _ a.1 in
     (a.0, b.0, b.1)
 
-pub accepted-field-run : (matrix sides square arrays : Checked) → field_run_check matrix sides square arrays ≡ Checked.Accepted → (matrix ≡ Checked.Accepted) × (sides ≡ Checked.Accepted) × (square ≡ Checked.Accepted) × (arrays ≡ Checked.Accepted)
+pub accepted-field-run : (matrix sides square arrays : Check) → field_run_check matrix sides square arrays ≡ Ok tt → (matrix ≡ Ok tt) × (sides ≡ Ok tt) × (square ≡ Ok tt) × (arrays ≡ Ok tt)
 unfolding field_run_check
 accepted-field-run matrix sides square arrays e =
     let a = both-passed _ _ e in

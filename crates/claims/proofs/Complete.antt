@@ -1,5 +1,8 @@
 -- The region that a list of growths has come to, its pattern, its plan and its gathered values. Assumes nothing.
 use mathlib.Core.Path.{◌≡◌, refl, sym, ap, ap₂, ◌∙◌, subst}
+use Rattle.std.specs.Prelude.{Ok}
+use Rattle.base.specs.Checks.{Check}
+use Rattle.base.specs.declared.Refusal.TheVariants.{ListTooShort}
 use mathlib.Core.Bool.{Bool, true, false, cond}
 use mathlib.Core.List.{List, map}
 use mathlib.Core.Logic.{◌↔◌}
@@ -13,7 +16,6 @@ use lib.Seq.{take_at}
 use Rattle.base.specs.Checks.{must, ◌then◌, leaves, entry_limit}
 use Rattle.base.specs.Lists.{over}
 use Rattle.base.specs.Sets.{count_below}
-use Rattle.base.specs.declared.Checked.{Checked}
 use Rattle.base.proofs.Checks.{then_next, checks-all, pass, last-pass, length-pass}
 use Rattle.base.proofs.Sets.{members-at, count-members}
 use Rattle.csr32.specs.Matrix.{IsMatrix}
@@ -41,7 +43,7 @@ use Rattle.claims.proofs.Pairs.{listed-pairs}
 
 -- ---- 23 and 24 refuse no topology that has the matrix's pairs
 
-binding-accepted : (n : ℕ) (p : ℕ → Bool) (s t : ℕ → ℕ → Bool) → ((r c : ℕ) → r < n → c < n → s r c ≡ t r c) → binding_check n p s t ≡ Checked.Accepted
+binding-accepted : (n : ℕ) (p : ℕ → Bool) (s t : ℕ → ℕ → Bool) → ((r c : ℕ) → r < n → c < n → s r c ≡ t r c) → binding_check n p s t ≡ Ok tt
 unfolding binding_check
 binding-accepted n p s t same =
     checks-all (count_below n p) _ (λ k l. let m = member k l in
@@ -52,7 +54,7 @@ binding-accepted n p s t same =
 
 -- ---- the three calls
 
-module _ (S : System) (a : Accepts S) (region : List ℕ) (mask : length_check S.side S.len region ≡ Checked.Accepted) where
+module _ (S : System) (a : Accepts S) (region : List ℕ) (mask : length_check S.side S.len region ≡ Ok tt) where
   abbrev n : ℕ
   n = S.side
 
@@ -62,10 +64,10 @@ module _ (S : System) (a : Accepts S) (region : List ℕ) (mask : length_check S
   matrix : IsMatrix n n S.row_ptr S.col_idx
   matrix = (accepted n n S.row_ptr S.col_idx S.values a.matrix).matrix
 
-  binds : binding_check n p (pairs_of S) (entries_stored S) ≡ Checked.Accepted
+  binds : binding_check n p (pairs_of S) (entries_stored S) ≡ Ok tt
   binds = binding-accepted n p (pairs_of S) (entries_stored S) a.same_pairs
 
-  region-passes : (topology : Checked) → topology ≡ Checked.Accepted → region_check topology n n S.len region ≡ Checked.Accepted
+  region-passes : (topology : Check) → topology ≡ Ok tt → region_check topology n n S.len region ≡ Ok tt
   unfolding region_check
   region-passes topology t = then_next _ _ t ∙ sym (pass _ _ _ _ (eq-eqb n n refl) refl) ∙ mask
 
@@ -73,7 +75,7 @@ module _ (S : System) (a : Accepts S) (region : List ℕ) (mask : length_check S
   unfolding pattern_check
   pattern_fits nodes ptr cols = then_next _ _ (region-passes (topology_of S) a.topology)
 
-  inputs : plan_inputs (matrix_of S) (topology_of S) n n n n S.len region (pairs_of S) (entries_stored S) ≡ Checked.Accepted
+  inputs : plan_inputs (matrix_of S) (topology_of S) n n n n S.len region (pairs_of S) (entries_stored S) ≡ Ok tt
   unfolding plan_inputs sides_check
   inputs =
       then_next _ _ a.matrix
@@ -86,11 +88,11 @@ module _ (S : System) (a : Accepts S) (region : List ℕ) (mask : length_check S
   plan_fits nodes ptr cols source_ptr sources = then_next _ _ inputs
 
   -- what an accepted plan leaves is handed on with exactly its own numbers
-  own-part : {A : Type 0} (check : Checked) (X l : List A) (m : ℕ) → check ≡ Checked.Accepted → length X ≡ m → take m (leaves check (over X l) l) ≡ X
-  own-part check X l m e h = ap (λ (t : Checked). take m (leaves t (over X l) l)) e ∙ take_at X (drop (length X) l) m h
+  own-part : {A : Type 0} (check : Check) (X l : List A) (m : ℕ) → check ≡ Ok tt → length X ≡ m → take m (leaves check (over X l) l) ≡ X
+  own-part check X l m e h = ap (λ (t : Check). take m (leaves t (over X l) l)) e ∙ take_at X (drop (length X) l) m h
 
-  pub gather_room : (nodes ptr cols source_ptr sources : List ℕ) (values out : List Float) → plan_of S region nodes ptr cols source_ptr sources ≡ Checked.Accepted → Values S values
-      → gather_of S region (planned S region nodes ptr cols source_ptr sources).source_ptr (planned S region nodes ptr cols source_ptr sources).sources values out ≡ must (leb (pairs_inside n p (pairs_of S)) (length out)) 25
+  pub gather_room : (nodes ptr cols source_ptr sources : List ℕ) (values out : List Float) → plan_of S region nodes ptr cols source_ptr sources ≡ Ok tt → Values S values
+      → gather_of S region (planned S region nodes ptr cols source_ptr sources).source_ptr (planned S region nodes ptr cols source_ptr sources).sources values out ≡ must (leb (pairs_inside n p (pairs_of S)) (length out)) ListTooShort
   gather_room nodes ptr cols source_ptr sources values out fits v =
       let E = entries S region in
       ap₂ (λ (x y : List ℕ). gather_check x y (length S.col_idx) values out)
@@ -100,7 +102,7 @@ module _ (S : System) (a : Accepts S) (region : List ℕ) (mask : length_check S
       ∙ sym (pass _ _ _ _ (le-leb (length values) entry_limit (omega (arith, v.as_many, matrix.few_entries))) refl)
       ∙ sym (length-pass _ _ _ _ (eq-eqb (length values) (length S.col_idx) v.as_many) refl)
       ∙ sym (pass _ _ _ _ v.all_finite refl)
-      ∙ ap (λ (m : ℕ). must (leb m (length out)) 25) (lists_length n p (pairs_of S) S.row_ptr S.col_idx)
+      ∙ ap (λ (m : ℕ). must (leb m (length out)) ListTooShort) (lists_length n p (pairs_of S) S.row_ptr S.col_idx)
 
 -- ---- one value for each pair
 

@@ -1,7 +1,7 @@
 -- Demand 3: the claim holds of every list of growths. Assumes nothing.
 use mathlib.Core.Path.{◌≡◌, ap, ◌∙◌}
+use Rattle.std.specs.Prelude.{Ok}
 use mathlib.Core.List.{List}
-use Rattle.base.specs.declared.Checked.{Checked}
 use Rattle.growths.specs.Runs.{Growth, Ground, check_of, region_of}
 use Rattle.claims.specs.Demand.{System, Accepts, Kind, extracted, planned, gathered_from, held, Claim}
 use Rattle.growths.proofs.Runs.{same_region, same_frontier}
@@ -14,7 +14,7 @@ demand-3 S a k kind cs =
     record {
       room = s.room (held S k cs).seeds (seeds-accepted S a k kind cs);
       as_one = λ some d by_total fits.
-          let takes : check_of k S.seeds d ≡ Checked.Accepted = s.room S.seeds a.seeds d ∙ fits in
+          let takes : check_of k S.seeds d ≡ (Ok tt) = s.room S.seeds a.seeds d ∙ fits in
           let region : (held S k cs).seeds ≡ region_of k S.seeds d = same_region k s.whole s.few S.seeds cs d some by_total takes in
           record {
             accepted = takes;

@@ -1,5 +1,6 @@
 -- After a list of growths: what is done with the seeds that it left is done with the region of one growth by the total. Assumes nothing.
 use mathlib.Core.Path.{◌≡◌, refl, ap, ◌∙◌}
+use Rattle.base.specs.Checks.{answer}
 use mathlib.Core.Bool.{Bool, true, false, cond}
 use mathlib.Core.List.{List}
 use Prim.Native.Nat.{ℕ}
@@ -11,7 +12,8 @@ use Rattle.growths.specs.Counts.{seeds_after}
 use Rattle.claims.specs.Cutting.{plan_cut, cut_answer, values_cut}
 use Rattle.claims.specs.Run.{if_grown}
 use Rattle.growths.specs.declared.Ran.{Ran}
-use Rattle.claims.specs.declared.RunAnswer.{RunAnswer}
+use Rattle.claims.specs.Run.{with_cut, without_cut}
+use Rattle.std.specs.Prelude.{Err}
 
 -- ---- no step goes by the system's first seeds
 
@@ -75,8 +77,8 @@ module _ (g : Network) (S : System) (seeds : List ℕ) (ran ran' : Ran) (e : ran
         (λ r w. gathered-seeds S w w nodes ptr cols source_ptr sources values out)
 
     pub answer-after : (values out : List Float)
-        → if_grown ran (RunAnswer.Grown ran (cut_answer (with_seeds S seeds) seeds nodes ptr cols source_ptr sources values out)) (RunAnswer.NotGrown ran)
-        ≡ if_grown ran' (RunAnswer.Grown ran' (cut_answer S (region_words g S.seeds ran'.total) nodes ptr cols source_ptr sources values out)) (RunAnswer.NotGrown ran')
+        → if_grown ran (with_cut ran (cut_answer (with_seeds S seeds) seeds nodes ptr cols source_ptr sources values out)) (without_cut ran)
+        ≡ if_grown ran' (with_cut ran' (cut_answer S (region_words g S.seeds ran'.total) nodes ptr cols source_ptr sources values out)) (without_cut ran')
     answer-after values out =
-        finished (λ r w. RunAnswer.Grown r (cut_answer (with_seeds S w) w nodes ptr cols source_ptr sources values out)) (λ r w. RunAnswer.Grown r (cut_answer S w nodes ptr cols source_ptr sources values out)) RunAnswer.NotGrown
-        (λ r w. ap (RunAnswer.Grown r) (cut-seeds S w w nodes ptr cols source_ptr sources values out))
+        finished (λ r w. with_cut r (cut_answer (with_seeds S w) w nodes ptr cols source_ptr sources values out)) (λ r w. with_cut r (cut_answer S w nodes ptr cols source_ptr sources values out)) without_cut
+        (λ r w. ap (with_cut r) (cut-seeds S w w nodes ptr cols source_ptr sources values out))

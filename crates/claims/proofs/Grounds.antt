@@ -1,9 +1,9 @@
 -- An accepted system is a ground for either kind of growths. Assumes nothing.
 use mathlib.Core.Path.{◌≡◌}
+use Rattle.std.specs.Prelude.{Ok}
 use mathlib.Core.List.{List}
 use Prim.Native.Nat.{◌≤◌}
 use Rattle.base.specs.Checks.{side_limit}
-use Rattle.base.specs.declared.Checked.{Checked}
 use Rattle.base.proofs.Checks.{both-passed, length-passed}
 use Rattle.mask.specs.Mask.{length_check}
 use Rattle.dual_topology.proofs.Accepted.{accepted-topology}
@@ -25,5 +25,5 @@ module _ (S : System) (a : Accepts S) where
   solid k Kind.plain = plain-solid (topology_of S) S.side S.len (pairs_of S) a.topology side-small len_is
   solid k (Kind.field kinds ids fields components offsets e) = field-solid (topology_of S) kinds ids fields components offsets S.side S.side S.len (pairs_of S) a.topology e side-small len_is
 
-  pub seeds-accepted : (k : Ground) → Kind S k → (cs : List Growth) → length_check S.side S.len (run k (begun S.seeds) cs).seeds ≡ Checked.Accepted
+  pub seeds-accepted : (k : Ground) → Kind S k → (cs : List Growth) → length_check S.side S.len (run k (begun S.seeds) cs).seeds ≡ Ok tt
   seeds-accepted k kind cs = run-accepted S.side S.len k (solid k kind) S.seeds a.seeds cs

@@ -1,5 +1,8 @@
 -- A run by arrays is a list of growths of demand 3: what it answers and leaves is what the list has come to, and the claim holds of it. Assumes nothing.
 use mathlib.Core.Path.{◌≡◌, refl, sym, ap, ap₂, ◌∙◌, subst}
+use Rattle.std.specs.Prelude.{Ok, Err}
+use Rattle.base.specs.Checks.{Check}
+use Rattle.base.specs.declared.Refusal.TheVariants.{ListTooShort}
 use mathlib.Core.Bool.{Bool, true, false, cond}
 use mathlib.Core.List.{List, [], ◌∷◌, ◌++◌}
 use Prim.Native.Nat.{ℕ, zero, suc, ◌+◌, ◌^◌, ◌≤◌, ◌<◌, min}
@@ -7,11 +10,10 @@ use native.Mathlib.Nat.{le_refl}
 use native.Mathlib.Omega.{arith}
 use lib.Ieee.{Float}
 use lib.ListN.{length, get_or}
-use Rattle.base.specs.Checks.{plain, leaves}
+use Rattle.base.specs.Checks.{leaves}
 use Rattle.base.specs.Lists.{list_from}
 use Rattle.base.specs.Sets.{one_if}
 use Rattle.base.specs.declared.Refusal.{Refusal}
-use Rattle.base.specs.declared.Checked.{Checked}
 use Rattle.base.proofs.Lists.{list_from-append}
 use Rattle.base.proofs.Sets.{sum-zero}
 use Rattle.mask.specs.Mask.{words_needed, length_check}
@@ -63,20 +65,20 @@ module _ (k : Ground) (st : Run) (c : Growth) where
   abbrev more : Run
   more = record { seeds = region_of k st.seeds c; frontier = frontier_of k st.seeds c; total = st.total + c.hops; last = c.hops; accepted = st.accepted + 1 }
 
-  took : check_of k st.seeds c ≡ Checked.Accepted → grown k st c ≡ more
+  took : check_of k st.seeds c ≡ Ok tt → grown k st c ≡ more
   unfolding grown
-  took e = ap (λ (t : Checked). leaves t more st) e
+  took e = ap (λ (t : Check). leaves t more st) e
 
-  stayed : (r : Refusal) → check_of k st.seeds c ≡ Checked.Refused r → grown k st c ≡ st
+  stayed : (r : Refusal) → check_of k st.seeds c ≡ Err r → grown k st c ≡ st
   unfolding grown
-  stayed r e = ap (λ (t : Checked). leaves t more st) e
+  stayed r e = ap (λ (t : Check). leaves t more st) e
 
 record Counts (needed : ℕ) (hops rooms : List ℕ) (shortest m : ℕ) (st : Run) : Type 0 where
   pub accepted : st.accepted ≡ accepted_in needed rooms shortest m
   pub total : st.total ≡ total_in needed hops rooms shortest m
   pub last : st.last ≡ last_in needed hops rooms shortest m
 
-module _ (side len : ℕ) (k : Ground) (s : Solid side len k) (first : List ℕ) (ok : length_check side len first ≡ Checked.Accepted) (hops rooms : List ℕ) (shortest : ℕ) (growth : ℕ → Growth) (lent : Lent hops rooms shortest growth) where
+module _ (side len : ℕ) (k : Ground) (s : Solid side len k) (first : List ℕ) (ok : length_check side len first ≡ Ok tt) (hops rooms : List ℕ) (shortest : ℕ) (growth : ℕ → Growth) (lent : Lent hops rooms shortest growth) where
   abbrev after : ℕ → Run
   after m = run k (begun first) (list_from growth m 0)
 
@@ -107,7 +109,7 @@ module _ (side len : ℕ) (k : Ground) (s : Solid side len k) (first : List ℕ)
                 ∙ sym (last-next (words_needed side) hops rooms shortest m ∙ ap (λ (b : Bool). cond b (get_or hops m 0) (last_in (words_needed side) hops rooms shortest m)) e);
           }
       go false e =
-          let g : after (m + 1) ≡ after m = after_next m ∙ stayed k (after m) (growth m) (plain 25) (room_is m l ∙ room-short side _ e) in
+          let g : after (m + 1) ≡ after m = after_next m ∙ stayed k (after m) (growth m) ListTooShort (room_is m l ∙ room-short side _ e) in
           let a : accepted_in (words_needed side) rooms shortest (m + 1) ≡ accepted_in (words_needed side) rooms shortest m + 0 = accepted-next (words_needed side) hops rooms shortest m ∙ ap (λ (b : Bool). accepted_in (words_needed side) rooms shortest m + one_if b) e in
           let t : total_in (words_needed side) hops rooms shortest (m + 1) ≡ total_in (words_needed side) hops rooms shortest m + 0 = total-next (words_needed side) hops rooms shortest m ∙ ap (λ (b : Bool). total_in (words_needed side) hops rooms shortest m + cond b (get_or hops m 0) 0) e in
           record {
@@ -152,22 +154,22 @@ pub record Speaks (S : System) (k : Ground) (ran : Ran) (cs : List Growth) : Typ
 
 module _ (nrows ncols : ℕ) (ptr idx masks : List ℕ) (pairs nrows2 ncols2 : ℕ) (ptr2 idx2 masks2 : List ℕ) (pairs2 rows cols : ℕ) (row_ptr col-idx : List ℕ) (values : List Float) (len : ℕ) (seeds hops rooms : List ℕ)
     (row_bits : (w : ℕ) → get_or masks w 0 < 2 ^ 64) (column_bits : (w : ℕ) → get_or masks2 w 0 < 2 ^ 64) (seed_bits : (w : ℕ) → get_or seeds w 0 < 2 ^ 64) where
-  abbrev matrix : Checked
+  abbrev matrix : Check
   matrix = matrix_check rows cols row_ptr col-idx values
 
-  abbrev topology : Checked
+  abbrev topology : Check
   topology = topology_check nrows ncols ptr idx masks pairs nrows2 ncols2 ptr2 idx2 masks2 pairs2
 
   abbrev S : System
   S = system_of nrows row_ptr col-idx values ptr idx masks pairs ptr2 idx2 masks2 pairs2 len seeds
 
-  abbrev sides : Checked
+  abbrev sides : Check
   sides = square_topology topology nrows ncols rows cols
 
-  abbrev arrays : Checked
+  abbrev arrays : Check
   arrays = arrays_check nrows len seeds (side_holds ptr idx masks) (stored row_ptr col-idx) hops rooms
 
-  accepts : matrix ≡ Checked.Accepted → sides ≡ Checked.Accepted → arrays ≡ Checked.Accepted → Accepts S
+  accepts : matrix ≡ Ok tt → sides ≡ Ok tt → arrays ≡ Ok tt → Accepts S
   accepts m t a =
       let b = accepted-sides topology nrows ncols rows cols t in
       let d = accepted-arrays nrows len seeds (side_holds ptr idx masks) (stored row_ptr col-idx) hops rooms a in
@@ -193,14 +195,14 @@ module _ (nrows ncols : ℕ) (ptr idx masks : List ℕ) (pairs nrows2 ncols2 : �
       }
 
   -- run_growths
-  pub run-speaks : run_check matrix sides arrays ≡ Checked.Accepted → (region frontier scratch : List ℕ) (growth : ℕ → Growth) → Lent hops rooms (min (length region) (min (length frontier) (length scratch))) growth
+  pub run-speaks : run_check matrix sides arrays ≡ Ok tt → (region frontier scratch : List ℕ) (growth : ℕ → Growth) → Lent hops rooms (min (length region) (min (length frontier) (length scratch))) growth
       → Speaks S (plain_ground (topology_of S) nrows (pairs_of S) len) (ran_by nrows hops rooms region frontier scratch) (list_from growth (length hops) 0)
   run-speaks e =
       let a = accepted-run matrix sides arrays e in
       speaks (accepts a.0 a.1 a.2) (plain_ground (topology_of S) nrows (pairs_of S) len) Kind.plain
 
   -- run_field_growths
-  pub field-run-speaks : (kinds ids fields components offsets : List ℕ) → field_run_check matrix sides (square_check kinds ids fields components offsets nrows ncols) arrays ≡ Checked.Accepted
+  pub field-run-speaks : (kinds ids fields components offsets : List ℕ) → field_run_check matrix sides (square_check kinds ids fields components offsets nrows ncols) arrays ≡ Ok tt
       → (region frontier scratch : List ℕ) (growth : ℕ → Growth) → Lent hops rooms (min (length region) (min (length frontier) (length scratch))) growth
       → Speaks S (field_ground (topology_of S) (square_check kinds ids fields components offsets nrows nrows) components (pairs_of S) len) (ran_by nrows hops rooms region frontier scratch) (list_from growth (length hops) 0)
   field-run-speaks kinds ids fields components offsets e =

@@ -1,19 +1,19 @@
 -- Document 01's section 'Worked by hand', the ● lines, as one table in its order. Each line is said of the definitions that the promises of the
 -- calls cite, all checks included; the lent lists are longer than needed, and what stands past the answer is as it was. Assumes nothing.
 use mathlib.Core.Path.{◌≡◌, refl}
+use Rattle.std.specs.Prelude.{Result, Ok, Err, Some, None}
+use Rattle.base.specs.Checks.{Check}
+use Rattle.base.specs.declared.Refusal.{Refusal}
+use Rattle.base.specs.declared.Refusal.TheVariants.{OutOfRange, ListTooShort}
 use mathlib.Core.Bool.{true, false}
 use mathlib.Core.List.{List, [], ◌∷◌}
 use Prim.Native.Nat.{ℕ}
 use lib.Ieee.{Float, binary64, add, of_bits}
-use Rattle.base.specs.Checks.{plain, must, must_be, ◌then◌, checks_below}
+use Rattle.base.specs.Checks.{must, must_be, ◌then◌, checks_below}
 use Rattle.base.specs.Lists.{is_in, list_from, join_below}
 use Rattle.base.specs.Sets.{any_below, first_below, every_below, sum_below, members_from}
-use Rattle.base.specs.declared.Checked.{Checked}
-use Rattle.base.specs.declared.Counted.{Counted}
 use Rattle.word.specs.Bits.{bit_at, word_from}
 use Rattle.word.specs.Answers.{rank_answer, select_answer}
-use Rattle.word.specs.declared.Ranked.{Ranked}
-use Rattle.word.specs.declared.Selected.{Selected}
 use Rattle.word.proofs.Worked.{word22}
 use Rattle.csr32.specs.Matrix.{matrix_check, stored}
 use Rattle.mask.specs.Mask.{in_mask, mask_words, clean, shape_check, length_check}
@@ -28,15 +28,12 @@ use Rattle.graph.specs.Network.{Network, plain_network, field_network, holding, 
 use Rattle.growth.specs.Lent.{masks_room, region_left, frontier_left}
 use Rattle.region.specs.Growth.{grow_check, grow_answer}
 use Rattle.region.specs.declared.AbtmRegionGrowthStats.{AbtmRegionGrowthStats}
-use Rattle.region.specs.declared.RegionGrown.{RegionGrown}
 use Rattle.region.proofs.Worked.{growths}
 use Rattle.field_region.specs.Closure.{close_check, close_words}
 use Rattle.field_region.specs.Growth.{field_grow_check, field_grow_answer}
 use Rattle.field_region.specs.declared.FieldAwareRegionStats.{FieldAwareRegionStats}
-use Rattle.field_region.specs.declared.FieldGrown.{FieldGrown}
 use Rattle.field_region.proofs.Worked.{field-growths, closures}
 use Rattle.multiplicity.specs.Multiplicity.{multiplicity_check, multiplicity_answer, multiplicity_counts}
-use Rattle.multiplicity.specs.declared.RegionsCounted.{RegionsCounted}
 use Rattle.multiplicity.proofs.Worked.{multiplicities}
 use Rattle.pattern.specs.Pattern.{local_row, pattern_columns, pattern_ptr, pairs_inside, pattern_room, region_check}
 use Rattle.binding.specs.Binding.{row_faults, binding_check}
@@ -44,7 +41,6 @@ use Rattle.sources.specs.Sources.{entries_in}
 use Rattle.gather.specs.Gather.{gathered, gather_check}
 use Rattle.gather.specs.Plan.{plan_sources, plan_ptr}
 use Rattle.numeric_plan.specs.Plan.{pair_entries, plan_room, sides_check, plan_inputs, plan_check}
-use Rattle.numeric_plan.specs.declared.PlanPrepared.{PlanPrepared}
 use Rattle.growths.specs.Runs.{Growth, Ground, plain_ground, begun, check_of, grown, run}
 use Rattle.claims.specs.Demand.{System, Planned, Gathered, matrix_of, topology_of, pairs_of, planned, gathered_from}
 use Rattle.claims.proofs.Built.{built_of}
@@ -87,13 +83,13 @@ lent_scratch = 11 ∷ 12 ∷ 13 ∷ []
 
 -- a plain growth of the chain by h
 module _ (seeds : List ℕ) (h : ℕ) where
-  abbrev check : Checked
+  abbrev check : Check
   check = grow_check (topology_of (chain seeds)) 3 3 3 seeds lent_region lent_frontier lent_scratch
 
   abbrev network : Network
   network = plain_network 3 (pairs_of (chain seeds))
 
-  abbrev answer : RegionGrown
+  abbrev answer : Result AbtmRegionGrowthStats Refusal
   answer = grow_answer check network seeds h
 
   abbrev region : List ℕ
@@ -118,14 +114,14 @@ stats hops completed seeds nodes visited rows columns bits =
 
 -- a field growth of the chain by h, under blocks of 2 and 1
 module _ (seeds : List ℕ) (h : ℕ) where
-  abbrev check_of_blocks : Checked
+  abbrev check_of_blocks : Check
   check_of_blocks =
       field_grow_check (topology_of (chain seeds)) (square_check (1 ∷ 1 ∷ []) (0 ∷ 1 ∷ []) (0 ∷ 0 ∷ []) (2 ∷ 1 ∷ []) (0 ∷ 2 ∷ 3 ∷ []) 3 3) (total_of (2 ∷ 1 ∷ [])) 3 seeds lent_region lent_frontier lent_scratch
 
   abbrev blocks : Network
   blocks = field_network (2 ∷ 1 ∷ []) (pairs_of (chain seeds))
 
-  abbrev answer_blocks : FieldGrown
+  abbrev answer_blocks : Result FieldAwareRegionStats Refusal
   answer_blocks = field_grow_answer check_of_blocks blocks seeds h
 
   abbrev region_of_blocks : List ℕ
@@ -214,46 +210,46 @@ module _ (region : List ℕ) where
 
 pub record Table : Type 0 where
   -- Word 22 (bits 1, 2, 4): rank 2 is 1, rank 64 is 3, rank 65 is refused 13
-  pub rank_2 : rank_answer 22 2 ≡ Ranked.At 1
-  pub rank_64 : rank_answer 22 64 ≡ Ranked.At 3
-  pub rank_65 : rank_answer 22 65 ≡ Ranked.Refused (plain 13)
+  pub rank_2 : rank_answer 22 2 ≡ Ok 1
+  pub rank_64 : rank_answer 22 64 ≡ Ok 3
+  pub rank_65 : rank_answer 22 65 ≡ Err OutOfRange
   -- Same word: select 2 is 4, select 3 is none
-  pub select_2 : select_answer 22 2 ≡ Selected.At 4
-  pub select_3 : select_answer 22 3 ≡ Selected.Nothing
+  pub select_2 : select_answer 22 2 ≡ Some 4
+  pub select_3 : select_answer 22 3 ≡ None
   -- Entries (0,1), (1,2), side 3, seed 0: h = 0 gives region and frontier 0, completed 0
-  pub chain_matrix : matrix_of (chain (1 ∷ [])) ≡ Checked.Accepted
+  pub chain_matrix : matrix_of (chain (1 ∷ [])) ≡ Ok tt
   pub chain_built : (seeds : List ℕ) → chain seeds ≡ built_of 3 (0 ∷ 1 ∷ 2 ∷ 2 ∷ []) (1 ∷ 2 ∷ []) (unit ∷ unit ∷ []) 3 seeds
-  pub h_0_answer : answer (1 ∷ []) 0 ≡ RegionGrown.Grown (stats 0 0 1 1 0 0 0 0)
+  pub h_0_answer : answer (1 ∷ []) 0 ≡ Ok (stats 0 0 1 1 0 0 0 0)
   pub h_0_region : region (1 ∷ []) 0 ≡ 1 ∷ 8 ∷ []
   pub h_0_frontier : frontier (1 ∷ []) 0 ≡ 1 ∷ 10 ∷ []
   -- h = 2: region 0,1,2, frontier 2, completed 2
-  pub h_2_answer : answer (1 ∷ []) 2 ≡ RegionGrown.Grown (stats 2 2 1 3 2 2 1 3)
+  pub h_2_answer : answer (1 ∷ []) 2 ≡ Ok (stats 2 2 1 3 2 2 1 3)
   pub h_2_region : region (1 ∷ []) 2 ≡ 7 ∷ 8 ∷ []
   pub h_2_frontier : frontier (1 ∷ []) 2 ≡ 4 ∷ 10 ∷ []
   -- h = 3 and 9: same region, empty frontier, completed 3
-  pub h_3_answer : answer (1 ∷ []) 3 ≡ RegionGrown.Grown (stats 3 3 1 3 3 2 2 4)
+  pub h_3_answer : answer (1 ∷ []) 3 ≡ Ok (stats 3 3 1 3 3 2 2 4)
   pub h_3_region : region (1 ∷ []) 3 ≡ 7 ∷ 8 ∷ []
   pub h_3_frontier : frontier (1 ∷ []) 3 ≡ 0 ∷ 10 ∷ []
-  pub h_9_answer : answer (1 ∷ []) 9 ≡ RegionGrown.Grown (stats 9 3 1 3 3 2 2 4)
+  pub h_9_answer : answer (1 ∷ []) 9 ≡ Ok (stats 9 3 1 3 3 2 2 4)
   pub h_9_region : region (1 ∷ []) 9 ≡ 7 ∷ 8 ∷ []
   pub h_9_frontier : frontier (1 ∷ []) 9 ≡ 0 ∷ 10 ∷ []
   -- Seed 2, h = 1: region 1,2
-  pub seed_2_answer : answer (4 ∷ []) 1 ≡ RegionGrown.Grown (stats 1 1 1 2 1 0 1 1)
+  pub seed_2_answer : answer (4 ∷ []) 1 ≡ Ok (stats 1 1 1 2 1 0 1 1)
   pub seed_2_region : region (4 ∷ []) 1 ≡ 6 ∷ 8 ∷ []
   pub seed_2_frontier : frontier (4 ∷ []) 1 ≡ 2 ∷ 10 ∷ []
   -- No seeds, h = 9: empty, completed 0
-  pub no_seeds_answer : answer (0 ∷ []) 9 ≡ RegionGrown.Grown (stats 9 0 0 0 0 0 0 0)
+  pub no_seeds_answer : answer (0 ∷ []) 9 ≡ Ok (stats 9 0 0 0 0 0 0 0)
   pub no_seeds_region : region (0 ∷ []) 9 ≡ 0 ∷ 8 ∷ []
   pub no_seeds_frontier : frontier (0 ∷ []) 9 ≡ 0 ∷ 10 ∷ []
   -- Same entries, blocks of 2 and 1, seed 1, h = 1: closed seeds 0,1; all three nodes; 2 blocks
   pub blocks_closed : seeds_closed (2 ∷ []) (9 ∷ 9 ∷ []) ≡ 3 ∷ 9 ∷ []
-  pub blocks_answer : answer_blocks (2 ∷ []) 1 ≡ FieldGrown.Grown (block_stats 1 1 1 2 3 2 2 2 1 3)
+  pub blocks_answer : answer_blocks (2 ∷ []) 1 ≡ Ok (block_stats 1 1 1 2 3 2 2 2 1 3)
   pub blocks_region : region_of_blocks (2 ∷ []) 1 ≡ 7 ∷ 8 ∷ []
   pub blocks_frontier : frontier_blocks (2 ∷ []) 1 ≡ 4 ∷ 10 ∷ []
   -- Regions {0,1}, {1,2}, {1}: counts 1,3,1; total 5; overlap nodes 1; pairs 3
   pub regions_counts : multiplicity_counts (multiplicity_check 3 3 regions lent_counts) 3 3 regions lent_counts ≡ 1 ∷ 3 ∷ 1 ∷ 9 ∷ []
   pub regions_answer : multiplicity_answer (multiplicity_check 3 3 regions lent_counts) 3 3 regions
-      ≡ RegionsCounted.Stats
+      ≡ Ok
       record {
         region_count = 3;
         node_count = 3;
@@ -270,25 +266,25 @@ pub record Table : Type 0 where
   pub doubled_built : doubled ≡ built_of 2 (0 ∷ 2 ∷ 3 ∷ []) (0 ∷ 0 ∷ 1 ∷ []) (f1·5 ∷ f2·25 ∷ minus_zero ∷ []) 2 (0 ∷ [])
   pub both_plan : plan (3 ∷ [])
       ≡ record {
-        answer = PlanPrepared.Prepared record { local_nodes = 2; local_nnz = 2; source_terms = 3; duplicate_source_terms = 1; direct_source_map = false; plan_bytes = 52 };
+        answer = Ok record { local_nodes = 2; local_nnz = 2; source_terms = 3; duplicate_source_terms = 1; direct_source_map = false; plan_bytes = 52 };
         nodes = 0 ∷ 1 ∷ 9 ∷ [];
         ptr = 0 ∷ 1 ∷ 2 ∷ 9 ∷ [];
         columns = 0 ∷ 1 ∷ 9 ∷ [];
         source_ptr = 0 ∷ 2 ∷ 3 ∷ 9 ∷ [];
         sources = 0 ∷ 1 ∷ 2 ∷ 9 ∷ [];
       }
-  pub both_gather : gather (3 ∷ []) ≡ record { answer = Counted.Count 2; values = f3·75 ∷ plus_zero ∷ f1·5 ∷ [] }
+  pub both_gather : gather (3 ∷ []) ≡ record { answer = Ok 2; values = f3·75 ∷ plus_zero ∷ f1·5 ∷ [] }
   -- Region 1 alone gathers -0.0
   pub alone_plan : plan (2 ∷ [])
       ≡ record {
-        answer = PlanPrepared.Prepared record { local_nodes = 1; local_nnz = 1; source_terms = 1; duplicate_source_terms = 0; direct_source_map = true; plan_bytes = 28 };
+        answer = Ok record { local_nodes = 1; local_nnz = 1; source_terms = 1; duplicate_source_terms = 0; direct_source_map = true; plan_bytes = 28 };
         nodes = 1 ∷ 9 ∷ 9 ∷ [];
         ptr = 0 ∷ 1 ∷ 9 ∷ 9 ∷ [];
         columns = 0 ∷ 9 ∷ 9 ∷ [];
         source_ptr = 0 ∷ 1 ∷ 9 ∷ 9 ∷ [];
         sources = 2 ∷ 9 ∷ 9 ∷ 9 ∷ [];
       }
-  pub alone_gather : gather (2 ∷ []) ≡ record { answer = Counted.Count 1; values = minus_zero ∷ f1·5 ∷ f1·5 ∷ [] }
+  pub alone_gather : gather (2 ∷ []) ≡ record { answer = Ok 1; values = minus_zero ∷ f1·5 ∷ f1·5 ∷ [] }
 
 pub table : Table
 unfolding must must_be ◌then◌ checks_below is_in list_from join_below any_below every_below first_below sum_below members_from bit_at word_from in_mask clean shape_check length_check matrix_check stored words_of_row masks_of_row mask_for row_holds limit_check fault_check bits_in lists_agree is_word_inside good_word words_fault side_fault turned first_fault sides_agree topology_fault topology_check local_row pattern_columns pattern_ptr pairs_inside pattern_room region_check row_faults binding_check entries_in gathered gather_check plan_sources plan_ptr pair_entries plan_room sides_check plan_inputs plan_check add of_bits
@@ -349,7 +345,7 @@ third = record { hops = 1; region = 3 ∷ []; frontier = 4 ∷ []; scratch = 5 �
 
 -- by 1, by 5, by 1: the refused growth changes nothing
 pub record Listed : Type 0 where
-  pub refused : check_of ground (3 ∷ []) second ≡ Checked.Refused (plain 25)
+  pub refused : check_of ground (3 ∷ []) second ≡ Err ListTooShort
   pub comes_to : run ground (begun (1 ∷ [])) (first ∷ second ∷ third ∷ []) ≡ record { seeds = 7 ∷ []; frontier = 4 ∷ []; total = 2; last = 1; accepted = 2 }
 
 pub listed : Listed

@@ -1,9 +1,9 @@
 -- Pattern, plan and gather one after the other on a region, on the lists they are lent: what a function that calls the three answers and leaves, by
 -- the same definitions as demand 3.
 use Rattle.std.specs.Prelude.{List, ℕ, Float}
+use Rattle.std.specs.Prelude.{Err}
+use Rattle.base.specs.Checks.{Check}
 use Rattle.base.specs.Checks.{after, leaves}
-use Rattle.base.specs.declared.Checked.{Checked}
-use Rattle.base.specs.declared.Counted.{Counted}
 use Rattle.claims.specs.Demand.{System, Extracted, Planned, Gathered, extracted, plan_of, planned, gathered_from}
 use Rattle.claims.specs.declared.Cut.{Cut}
 
@@ -35,7 +35,7 @@ module _ (S : System) (region nodes ptr cols source_ptr sources : List ℕ) wher
   abbrev pub plan_cut : Planned
   plan_cut = planned S region pattern_cut.nodes pattern_cut.ptr pattern_cut.columns source_ptr sources
 
-  abbrev pub plan_accepts : Checked
+  abbrev pub plan_accepts : Check
   plan_accepts = plan_of S region pattern_cut.nodes pattern_cut.ptr pattern_cut.columns source_ptr sources
 
   -- the gather on the plan's own pointers and sources, where there is a plan
@@ -44,7 +44,7 @@ module _ (S : System) (region nodes ptr cols source_ptr sources : List ℕ) wher
 
   unfoldable pub cut_answer : List Float → List Float → Cut
   cut_answer values out =
-      record { pattern = pattern_cut.answer; plan = plan_cut.answer; gathered = after plan_accepts (gather_cut values out).answer Counted.Refused }
+      record { pattern = pattern_cut.answer; plan = plan_cut.answer; gathered = after plan_accepts (gather_cut values out).answer Err }
 
   abbrev pub values_cut : List Float → List Float → List Float
   values_cut values out = leaves plan_accepts (gather_cut values out).values out

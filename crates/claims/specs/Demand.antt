@@ -1,12 +1,14 @@
 -- Demand 3, one claim about the whole list of growths. Its inputs, what the later calls give on a region, and what is claimed.
 use Rattle.std.specs.Prelude.{◌≡◌, Bool, true, cond, ◌&&◌, List, map, ◌↔◌, ℕ, ◌+◌, ◌*◌, ◌/◌, ◌%◌, ◌^◌, ◌≤◌, ◌<◌, min, T, leb, Float, length, get_or, take}
+use Rattle.std.specs.Prelude.{Result, Ok}
+use Rattle.base.specs.Checks.{Check, answer}
+use Rattle.base.specs.declared.Refusal.{Refusal}
+use Rattle.base.specs.declared.Refusal.TheVariants.{ListTooShort}
 use Rattle.std.specs.Float.{nan}
 use Rattle.std.proofs.Math.Seq.{slice}
 use Rattle.base.specs.Checks.{must, ◌then◌}
 use Rattle.base.specs.Lists.{every, join_below}
 use Rattle.base.specs.Sets.{count_below, members_below}
-use Rattle.base.specs.declared.Checked.{Checked}
-use Rattle.base.specs.declared.Counted.{Counted}
 use Rattle.csr32.specs.Matrix.{matrix_check, stored, finite}
 use Rattle.mask.specs.Mask.{in_mask, length_check}
 use Rattle.dof_layout.specs.Answers.{square_check}
@@ -16,12 +18,12 @@ use Rattle.graph.specs.Distance.{Within, Distance}
 use Rattle.graph.specs.Network.{linked, seeded}
 use Rattle.growth.specs.Lent.{masks_room}
 use Rattle.pattern.specs.Pattern.{member_at, pattern_check, pattern_room, pattern_answer, nodes_left, ptr_left, columns_left, pattern_ptr, pattern_columns, pairs_inside}
-use Rattle.pattern.specs.declared.PatternExtracted.{PatternExtracted}
 use Rattle.gather.specs.Gather.{sum_of, gathered, gather_check, gather_answer, gather_left}
 use Rattle.gather.specs.Plan.{plan_sources, plan_ptr, direct}
 use Rattle.numeric_plan.specs.Plan.{pair_entries, plan_inputs, plan_room, plan_check, plan_answer, source_ptr_left, sources_left}
-use Rattle.numeric_plan.specs.declared.PlanPrepared.{PlanPrepared}
 use Rattle.growths.specs.Runs.{largest, Growth, Ground, plain_ground, field_ground, Run, begun, check_of, region_of, frontier_of, run}
+use Rattle.numeric_plan.specs.declared.AbtmLocalNumericPlanStats.{AbtmLocalNumericPlanStats}
+use Rattle.pattern.specs.declared.AbtmLocalSubmatrixPatternStats.{AbtmLocalSubmatrixPatternStats}
 
 -- ---- the inputs
 
@@ -43,10 +45,10 @@ pub record System : Type 0 where
   pub seeds : List ℕ
 
 module _ (S : System) where
-  abbrev pub matrix_of : Checked
+  abbrev pub matrix_of : Check
   matrix_of = matrix_check S.side S.side S.row_ptr S.col_idx S.values
 
-  abbrev pub topology_of : Checked
+  abbrev pub topology_of : Check
   topology_of =
       topology_check S.side S.side S.row_word_ptr S.row_word_indices S.row_masks S.row_pairs S.side S.side S.column_word_ptr S.column_word_indices S.column_masks S.column_pairs
 
@@ -59,10 +61,10 @@ module _ (S : System) where
 
   -- matrix, topology and seeds are accepted, and the topology has exactly the matrix's pairs; words have 64 bits
   pub record Accepts : Type 0 where
-    pub matrix : matrix_of ≡ Checked.Accepted
-    pub topology : topology_of ≡ Checked.Accepted
+    pub matrix : matrix_of ≡ Ok tt
+    pub topology : topology_of ≡ Ok tt
     pub same_pairs : (r c : ℕ) → r < S.side → c < S.side → pairs_of r c ≡ entries_stored r c
-    pub seeds : length_check S.side S.len S.seeds ≡ Checked.Accepted
+    pub seeds : length_check S.side S.len S.seeds ≡ Ok tt
     pub row_bits : (w : ℕ) → get_or S.row_masks w 0 < 2 ^ 64
     pub column_bits : (w : ℕ) → get_or S.column_masks w 0 < 2 ^ 64
     pub seed_bits : (w : ℕ) → get_or S.seeds w 0 < 2 ^ 64
@@ -70,7 +72,7 @@ module _ (S : System) where
   -- all growths are plain ones, or field growths under one accepted layout
   pub data Kind : Ground → Type 0 where
     plain : Kind (plain_ground topology_of S.side pairs_of S.len)
-    field : (kinds ids fields components offsets : List ℕ) → square_check kinds ids fields components offsets S.side S.side ≡ Checked.Accepted
+    field : (kinds ids fields components offsets : List ℕ) → square_check kinds ids fields components offsets S.side S.side ≡ Ok tt
         → Kind (field_ground topology_of (square_check kinds ids fields components offsets S.side S.side) components pairs_of S.len)
 
   -- values that a gather accepts
@@ -81,13 +83,13 @@ module _ (S : System) where
 -- ---- pattern, plan and gather on a region, as their promises say it
 
 pub record Extracted : Type 0 where
-  pub answer : PatternExtracted
+  pub answer : Result AbtmLocalSubmatrixPatternStats Refusal
   pub nodes : List ℕ
   pub ptr : List ℕ
   pub columns : List ℕ
 
 pub record Planned : Type 0 where
-  pub answer : PlanPrepared
+  pub answer : Result AbtmLocalNumericPlanStats Refusal
   pub nodes : List ℕ
   pub ptr : List ℕ
   pub columns : List ℕ
@@ -95,11 +97,11 @@ pub record Planned : Type 0 where
   pub sources : List ℕ
 
 pub record Gathered : Type 0 where
-  pub answer : Counted
+  pub answer : Result ℕ Refusal
   pub values : List Float
 
 module _ (S : System) (region : List ℕ) where
-  abbrev pub pattern_of : List ℕ → List ℕ → List ℕ → Checked
+  abbrev pub pattern_of : List ℕ → List ℕ → List ℕ → Check
   pattern_of nodes ptr cols = pattern_check (topology_of S) S.side S.side S.len region (pairs_of S) nodes ptr cols
 
   abbrev pub extracted : List ℕ → List ℕ → List ℕ → Extracted
@@ -115,7 +117,7 @@ module _ (S : System) (region : List ℕ) where
   abbrev pub entries : List (List ℕ)
   entries = pair_entries S.side (in_mask region) (pairs_of S) S.row_ptr S.col_idx
 
-  abbrev pub plan_of : List ℕ → List ℕ → List ℕ → List ℕ → List ℕ → Checked
+  abbrev pub plan_of : List ℕ → List ℕ → List ℕ → List ℕ → List ℕ → Check
   plan_of nodes ptr cols source_ptr sources =
       plan_check (plan_inputs (matrix_of S) (topology_of S) S.side S.side S.side S.side S.len region (pairs_of S) (entries_stored S)) S.side (in_mask region) (pairs_of S) entries nodes ptr cols source_ptr sources
 
@@ -131,7 +133,7 @@ module _ (S : System) (region : List ℕ) where
       }
 
   -- a plan is handed on with exactly its own pointers and sources
-  abbrev pub gather_of : List ℕ → List ℕ → List Float → List Float → Checked
+  abbrev pub gather_of : List ℕ → List ℕ → List Float → List Float → Check
   gather_of source_ptr sources values out =
       gather_check (take (length entries + 1) source_ptr) (take (length (plan_sources entries)) sources) (length S.col_idx) values out
 
@@ -165,7 +167,7 @@ module _ (S : System) (k : Ground) (cs : List Growth) where
 
   -- as after one growth d from the first seeds
   pub record AsOne (d : Growth) : Type 0 where
-    pub accepted : check_of k S.seeds d ≡ Checked.Accepted
+    pub accepted : check_of k S.seeds d ≡ Ok tt
     pub region : held.seeds ≡ region_of k S.seeds d
     pub frontier : 1 ≤ held.last → held.frontier ≡ frontier_of k S.seeds d
     pub pattern : (nodes ptr cols : List ℕ) → extracted S held.seeds nodes ptr cols ≡ extracted S (region_of k S.seeds d) nodes ptr cols
@@ -185,9 +187,9 @@ module _ (S : System) (k : Ground) (cs : List Growth) where
     pub pattern_fits : (nodes ptr cols : List ℕ) → pattern_of S held.seeds nodes ptr cols ≡ pattern_room S.side p (pairs_of S) nodes ptr cols
     pub plan_fits : (nodes ptr cols source_ptr sources : List ℕ)
         → plan_of S held.seeds nodes ptr cols source_ptr sources ≡ (pattern_room S.side p (pairs_of S) nodes ptr cols then plan_room (entries S held.seeds) source_ptr sources)
-    pub gather_room : (nodes ptr cols source_ptr sources : List ℕ) (values out : List Float) → plan_of S held.seeds nodes ptr cols source_ptr sources ≡ Checked.Accepted → Values S values
+    pub gather_room : (nodes ptr cols source_ptr sources : List ℕ) (values out : List Float) → plan_of S held.seeds nodes ptr cols source_ptr sources ≡ Ok tt → Values S values
         → gather_of S held.seeds (planned S held.seeds nodes ptr cols source_ptr sources).source_ptr (planned S held.seeds nodes ptr cols source_ptr sources).sources values out
-        ≡ must (leb (pairs_inside S.side p (pairs_of S)) (length out)) 25
+        ≡ must (leb (pairs_inside S.side p (pairs_of S)) (length out)) ListTooShort
     -- the pattern is each pair stored in the region once, by row, then by rising column
     pub pairs : listed_pairs S.side p (pattern_ptr S.side p (pairs_of S)) (pattern_columns S.side p (pairs_of S)) ≡ stored_pairs S.side p (entries_stored S)
     -- one gathered value for each: the sum in stored order of all its entries or, where no pair has several, its entry
@@ -200,5 +202,5 @@ module _ (S : System) (k : Ground) (cs : List Growth) where
     -- only 25 can refuse the next growth, which is accepted exactly if its lists reach their needed lengths
     pub room : (c : Growth) → check_of k held.seeds c ≡ masks_room S.side (length c.region) (length c.frontier) (length c.scratch)
     -- after at least one accepted growth: as after one growth by the total, the largest count where the total is past 64 bits
-    pub as_one : 1 ≤ held.accepted → (d : Growth) → d.hops ≡ min held.total largest → masks_room S.side (length d.region) (length d.frontier) (length d.scratch) ≡ Checked.Accepted → AsOne d
+    pub as_one : 1 ≤ held.accepted → (d : Growth) → d.hops ≡ min held.total largest → masks_room S.side (length d.region) (length d.frontier) (length d.scratch) ≡ Ok tt → AsOne d
     pub complete : 1 ≤ held.accepted → Complete

@@ -1,20 +1,16 @@
 // The local system of the region that a list of growths comes to, for callers that have checked: no part of the API.
 ghost use Rattle.std.specs.Prelude.{◌≡◌, false, ◌+◌, ◌≤◌, length, take};
-ghost use Rattle.base.specs.declared.Checked.{Checked};
 ghost use Rattle.mask.specs.Mask.{mask_words};
 ghost use Rattle.csr32.specs.Matrix.{stored, IsMatrix};
 ghost use Rattle.side.specs.Side.{side_holds};
 ghost use Rattle.side.specs.Check.{IsSide};
 ghost use Rattle.gather.specs.Gather.{gather_check, gather_answer, gather_left};
 ghost use Rattle.claims.specs.Cutting.{system_of, plan_cut, cut_answer, values_cut};
-ghost use Rattle.claims.specs.Run.{pairs_check, arrays_check, if_grown};
-ghost use Rattle.claims.specs.declared.RunAnswer.{RunAnswer};
+ghost use Rattle.claims.specs.Run.{with_cut, without_cut, pairs_check, arrays_check, if_grown};
 
-use crate::{Cut, RunAnswer};
-use base::{Checked, Counted};
-use binding::Binding;
+use crate::{Cut, GrowthRun};
+use base::Refusal;
 use growths::Ran;
-use numeric_plan::PlanPrepared;
 
 // The gather on the first pointers and sources of two lists: a plan's own.
 fn gather_own(
@@ -25,7 +21,7 @@ fn gather_own(
     source_value_len: usize,
     values: &[f64],
     out: &mut [f64],
-) -> Counted
+) -> Result<u64, Refusal>
     requires { (pairs + 1 ≤ length source_ptr.now) × (terms ≤ length source_indices.now) }
     ensures value { result ≡ gather_answer (gather_check (take (pairs + 1) source_ptr.now) (take terms source_indices.now) source_value_len values.now out.old) (take (pairs + 1) source_ptr.now) }
     ensures out_after { out.new ≡ gather_left (gather_check (take (pairs + 1) source_ptr.now) (take terms source_indices.now) source_value_len values.now out.old) (take (pairs + 1) source_ptr.now) (take terms source_indices.now) values.now out.old }
@@ -119,12 +115,12 @@ pub fn cut(
         source_ptr,
         source_indices,
     ) {
-        PlanPrepared::Refused(r) => Cut {
+        Err(r) => Cut {
             pattern: extracted,
-            plan: PlanPrepared::Refused(r),
-            gathered: Counted::Refused(r),
+            plan: Err(r),
+            gathered: Err(r),
         },
-        PlanPrepared::Prepared(s) => {
+        Ok(s) => {
             let gathered = gather_own(
                 source_ptr,
                 source_indices,
@@ -136,7 +132,7 @@ pub fn cut(
             );
             Cut {
                 pattern: extracted,
-                plan: PlanPrepared::Prepared(s),
+                plan: Ok(s),
                 gathered,
             }
         }
@@ -167,8 +163,8 @@ pub fn finish(
     source_ptr: &mut [u32],
     source_indices: &mut [u32],
     out: &mut [f64],
-) -> RunAnswer
-    ensures value { result ≡ if_grown ran (RunAnswer.Grown ran (cut_answer (system_of side row_ptr.now col_idx.now values.now row_word_ptr.now row_word_indices.now row_masks.now structural_nnz column_word_ptr.now column_word_indices.now column_masks.now column_structural_nnz len words.now) words.now global_nodes.old local_row_ptr.old local_col_idx.old source_ptr.old source_indices.old new_values.now out.old)) (RunAnswer.NotGrown ran) }
+) -> GrowthRun
+    ensures value { result ≡ if_grown ran (with_cut ran (cut_answer (system_of side row_ptr.now col_idx.now values.now row_word_ptr.now row_word_indices.now row_masks.now structural_nnz column_word_ptr.now column_word_indices.now column_masks.now column_structural_nnz len words.now) words.now global_nodes.old local_row_ptr.old local_col_idx.old source_ptr.old source_indices.old new_values.now out.old)) (without_cut ran) }
     ensures members { global_nodes.new ≡ if_grown ran (plan_cut (system_of side row_ptr.now col_idx.now values.now row_word_ptr.now row_word_indices.now row_masks.now structural_nnz column_word_ptr.now column_word_indices.now column_masks.now column_structural_nnz len words.now) words.now global_nodes.old local_row_ptr.old local_col_idx.old source_ptr.old source_indices.old).nodes global_nodes.old }
     ensures pointers { local_row_ptr.new ≡ if_grown ran (plan_cut (system_of side row_ptr.now col_idx.now values.now row_word_ptr.now row_word_indices.now row_masks.now structural_nnz column_word_ptr.now column_word_indices.now column_masks.now column_structural_nnz len words.now) words.now global_nodes.old local_row_ptr.old local_col_idx.old source_ptr.old source_indices.old).ptr local_row_ptr.old }
     ensures columns { local_col_idx.new ≡ if_grown ran (plan_cut (system_of side row_ptr.now col_idx.now values.now row_word_ptr.now row_word_indices.now row_masks.now structural_nnz column_word_ptr.now column_word_indices.now column_masks.now column_structural_nnz len words.now) words.now global_nodes.old local_row_ptr.old local_col_idx.old source_ptr.old source_indices.old).columns local_col_idx.old }
@@ -177,7 +173,7 @@ pub fn finish(
     ensures filled { out.new ≡ if_grown ran (values_cut (system_of side row_ptr.now col_idx.now values.now row_word_ptr.now row_word_indices.now row_masks.now structural_nnz column_word_ptr.now column_word_indices.now column_masks.now column_structural_nnz len words.now) words.now global_nodes.old local_row_ptr.old local_col_idx.old source_ptr.old source_indices.old new_values.now out.old) out.old }
 {
     if ran.accepted == 0 {
-        return RunAnswer::NotGrown(ran);
+        return GrowthRun { ran, cut: None };
     }
     let local = cut(
         side,
@@ -202,7 +198,10 @@ pub fn finish(
         source_indices,
         out,
     );
-    RunAnswer::Grown(ran, local)
+    GrowthRun {
+        ran,
+        cut: Some(local),
+    }
 }
 
 // 23 and 24 over all rows, by a mask that is filled here.
@@ -214,12 +213,12 @@ fn check_filled(
     row_ptr: &[u32],
     col_idx: &[u32],
     all: &mut [u64],
-) -> Checked
+) -> Result<(), Refusal>
     requires { IsSide n n row_word_ptr.now row_word_indices.now row_masks.now × IsMatrix n n row_ptr.now col_idx.now × (all.old ≡ mask_words n (λ i. false)) }
     ensures { result ≡ pairs_check n (side_holds row_word_ptr.now row_word_indices.now row_masks.now) (stored row_ptr.now col_idx.now) }
 {
     mask::inner::add_range(n, all, 0, n);
-    match binding::inner::bind(
+    binding::inner::bind(
         n,
         row_word_ptr,
         row_word_indices,
@@ -227,10 +226,8 @@ fn check_filled(
         row_ptr,
         col_idx,
         all,
-    ) {
-        Binding::Refused(r) => Checked::Refused(r),
-        Binding::Bound(_) => Checked::Accepted,
-    }
+    )?;
+    Ok(())
 }
 
 // The same with a mask of its own: 16,384 words hold the 1,048,576 nodes that a matrix has at most.
@@ -241,7 +238,7 @@ fn check_pairs(
     row_masks: &[u64],
     row_ptr: &[u32],
     col_idx: &[u32],
-) -> Checked
+) -> Result<(), Refusal>
     requires { IsSide n n row_word_ptr.now row_word_indices.now row_masks.now × IsMatrix n n row_ptr.now col_idx.now }
     ensures { result ≡ pairs_check n (side_holds row_word_ptr.now row_word_indices.now row_masks.now) (stored row_ptr.now col_idx.now) }
 {
@@ -270,27 +267,21 @@ pub fn check_arrays(
     seeds: &[u64],
     hops: &[u64],
     rooms: &[u64],
-) -> Checked
+) -> Result<(), Refusal>
     requires { IsSide n n row_word_ptr.now row_word_indices.now row_masks.now × IsMatrix n n row_ptr.now col_idx.now }
     ensures { result ≡ arrays_check n len seeds.now (side_holds row_word_ptr.now row_word_indices.now row_masks.now) (stored row_ptr.now col_idx.now) hops.now rooms.now }
 {
-    match mask::inner::check_length(n, len, seeds) {
-        Checked::Refused(r) => Checked::Refused(r),
-        Checked::Accepted => match check_pairs(
-            n,
-            row_word_ptr,
-            row_word_indices,
-            row_masks,
-            row_ptr,
-            col_idx,
-        ) {
-            Checked::Refused(r) => Checked::Refused(r),
-            Checked::Accepted => {
-                if rooms.len() != hops.len() {
-                    return base::wrong_length(hops.len(), rooms.len());
-                }
-                Checked::Accepted
-            }
-        },
+    mask::inner::check_length(n, len, seeds)?;
+    check_pairs(
+        n,
+        row_word_ptr,
+        row_word_indices,
+        row_masks,
+        row_ptr,
+        col_idx,
+    )?;
+    if rooms.len() != hops.len() {
+        return Err(Refusal::wrong_length(hops.len(), rooms.len()));
     }
+    Ok(())
 }

@@ -13,27 +13,26 @@ ghost use Rattle.growths.specs.Counts.{seeds_after, region_once_grown, frontier_
 ghost use Rattle.claims.specs.Cutting.{system_of, plan_cut, cut_answer, values_cut};
 ghost use Rattle.claims.specs.Run.{square_topology, arrays_check, run_check, field_run_check, ran_by, run_answer, run_left};
 
-use base::{Checked, Counted, Refusal};
+use base::Refusal;
 use growths::Ran;
-use numeric_plan::PlanPrepared;
-use pattern::PatternExtracted;
+use numeric_plan::AbtmLocalNumericPlanStats;
+use pattern::AbtmLocalSubmatrixPatternStats;
 
 pub mod inner;
 
 // What pattern, plan and gather answered on one region.
 #[derive(Clone, Copy)]
 pub struct Cut {
-    pub pattern: PatternExtracted,
-    pub plan: PlanPrepared,
-    pub gathered: Counted,
+    pub pattern: Result<AbtmLocalSubmatrixPatternStats, Refusal>,
+    pub plan: Result<AbtmLocalNumericPlanStats, Refusal>,
+    pub gathered: Result<u64, Refusal>,
 }
 
 // With no accepted growth there is no region to cut.
 #[derive(Clone, Copy)]
-pub enum RunAnswer {
-    Grown(Ran, Cut),
-    NotGrown(Ran),
-    Refused(Refusal),
+pub struct GrowthRun {
+    pub ran: Ran,
+    pub cut: Option<Cut>,
 }
 
 // The topology, its sides against the matrix's, its shape.
@@ -52,10 +51,10 @@ fn check_sides(
     column_structural_nnz: usize,
     matrix_nrows: usize,
     matrix_ncols: usize,
-) -> Checked
+) -> Result<(), Refusal>
     ensures { result ≡ square_topology (topology_check nrows ncols row_word_ptr.now row_word_indices.now row_masks.now structural_nnz column_nrows column_ncols column_word_ptr.now column_word_indices.now column_masks.now column_structural_nnz) nrows ncols matrix_nrows matrix_ncols }
 {
-    match dual_topology::validate(
+    dual_topology::validate(
         nrows,
         ncols,
         row_word_ptr,
@@ -68,21 +67,17 @@ fn check_sides(
         column_word_indices,
         column_masks,
         column_structural_nnz,
-    ) {
-        Checked::Refused(r) => Checked::Refused(r),
-        Checked::Accepted => {
-            if nrows != matrix_nrows {
-                return base::refused(22);
-            }
-            if ncols != matrix_ncols {
-                return base::refused(22);
-            }
-            if nrows != ncols {
-                return base::refused(10);
-            }
-            Checked::Accepted
-        }
+    )?;
+    if nrows != matrix_nrows {
+        return Err(Refusal::SidesDiffer);
     }
+    if ncols != matrix_ncols {
+        return Err(Refusal::SidesDiffer);
+    }
+    if nrows != ncols {
+        return Err(Refusal::NotSquare);
+    }
+    Ok(())
 }
 
 // The matrix, the topology and its sides, the arrays.
@@ -108,42 +103,38 @@ fn check_run(
     seeds: &[u64],
     hops: &[u64],
     rooms: &[u64],
-) -> Checked
+) -> Result<(), Refusal>
     ensures { result ≡ run_check (matrix_check matrix_nrows matrix_ncols row_ptr.now col_idx.now values.now) (square_topology (topology_check nrows ncols row_word_ptr.now row_word_indices.now row_masks.now structural_nnz column_nrows column_ncols column_word_ptr.now column_word_indices.now column_masks.now column_structural_nnz) nrows ncols matrix_nrows matrix_ncols) (arrays_check nrows len seeds.now (side_holds row_word_ptr.now row_word_indices.now row_masks.now) (stored row_ptr.now col_idx.now) hops.now rooms.now) }
 {
-    match csr32::validate(matrix_nrows, matrix_ncols, row_ptr, col_idx, values) {
-        Checked::Refused(r) => Checked::Refused(r),
-        Checked::Accepted => match check_sides(
-            nrows,
-            ncols,
-            row_word_ptr,
-            row_word_indices,
-            row_masks,
-            structural_nnz,
-            column_nrows,
-            column_ncols,
-            column_word_ptr,
-            column_word_indices,
-            column_masks,
-            column_structural_nnz,
-            matrix_nrows,
-            matrix_ncols,
-        ) {
-            Checked::Refused(r) => Checked::Refused(r),
-            Checked::Accepted => inner::check_arrays(
-                nrows,
-                row_word_ptr,
-                row_word_indices,
-                row_masks,
-                row_ptr,
-                col_idx,
-                len,
-                seeds,
-                hops,
-                rooms,
-            ),
-        },
-    }
+    csr32::validate(matrix_nrows, matrix_ncols, row_ptr, col_idx, values)?;
+    check_sides(
+        nrows,
+        ncols,
+        row_word_ptr,
+        row_word_indices,
+        row_masks,
+        structural_nnz,
+        column_nrows,
+        column_ncols,
+        column_word_ptr,
+        column_word_indices,
+        column_masks,
+        column_structural_nnz,
+        matrix_nrows,
+        matrix_ncols,
+    )?;
+    inner::check_arrays(
+        nrows,
+        row_word_ptr,
+        row_word_indices,
+        row_masks,
+        row_ptr,
+        col_idx,
+        len,
+        seeds,
+        hops,
+        rooms,
+    )
 }
 
 // The same with the layout against the topology.
@@ -174,53 +165,47 @@ fn check_field_run(
     seeds: &[u64],
     hops: &[u64],
     rooms: &[u64],
-) -> Checked
+) -> Result<(), Refusal>
     ensures { result ≡ field_run_check (matrix_check matrix_nrows matrix_ncols row_ptr.now col_idx.now values.now) (square_topology (topology_check nrows ncols row_word_ptr.now row_word_indices.now row_masks.now structural_nnz column_nrows column_ncols column_word_ptr.now column_word_indices.now column_masks.now column_structural_nnz) nrows ncols matrix_nrows matrix_ncols) (square_check entity_kinds.now entity_ids.now field_ids.now components.now offsets.now nrows ncols) (arrays_check nrows len seeds.now (side_holds row_word_ptr.now row_word_indices.now row_masks.now) (stored row_ptr.now col_idx.now) hops.now rooms.now) }
 {
-    match csr32::validate(matrix_nrows, matrix_ncols, row_ptr, col_idx, values) {
-        Checked::Refused(r) => Checked::Refused(r),
-        Checked::Accepted => match check_sides(
-            nrows,
-            ncols,
-            row_word_ptr,
-            row_word_indices,
-            row_masks,
-            structural_nnz,
-            column_nrows,
-            column_ncols,
-            column_word_ptr,
-            column_word_indices,
-            column_masks,
-            column_structural_nnz,
-            matrix_nrows,
-            matrix_ncols,
-        ) {
-            Checked::Refused(r) => Checked::Refused(r),
-            Checked::Accepted => match dof_layout::validate_square_matrix_size(
-                entity_kinds,
-                entity_ids,
-                field_ids,
-                components,
-                offsets,
-                nrows,
-                ncols,
-            ) {
-                Checked::Refused(r) => Checked::Refused(r),
-                Checked::Accepted => inner::check_arrays(
-                    nrows,
-                    row_word_ptr,
-                    row_word_indices,
-                    row_masks,
-                    row_ptr,
-                    col_idx,
-                    len,
-                    seeds,
-                    hops,
-                    rooms,
-                ),
-            },
-        },
-    }
+    csr32::validate(matrix_nrows, matrix_ncols, row_ptr, col_idx, values)?;
+    check_sides(
+        nrows,
+        ncols,
+        row_word_ptr,
+        row_word_indices,
+        row_masks,
+        structural_nnz,
+        column_nrows,
+        column_ncols,
+        column_word_ptr,
+        column_word_indices,
+        column_masks,
+        column_structural_nnz,
+        matrix_nrows,
+        matrix_ncols,
+    )?;
+    dof_layout::validate_square_matrix_size(
+        entity_kinds,
+        entity_ids,
+        field_ids,
+        components,
+        offsets,
+        nrows,
+        ncols,
+    )?;
+    inner::check_arrays(
+        nrows,
+        row_word_ptr,
+        row_word_indices,
+        row_masks,
+        row_ptr,
+        col_idx,
+        len,
+        seeds,
+        hops,
+        rooms,
+    )
 }
 
 // A list of growths: growth i goes by hops[i], is lent the first rooms[i] words of region, frontier and scratch, as far as they reach, and is seeded with
@@ -258,7 +243,7 @@ pub fn run_growths(
     source_ptr: &mut [u32],
     source_indices: &mut [u32],
     out: &mut [f64],
-) -> RunAnswer
+) -> Result<GrowthRun, Refusal>
     ensures value { result ≡ run_answer (run_check (matrix_check matrix_nrows matrix_ncols row_ptr.now col_idx.now values.now) (square_topology (topology_check nrows ncols row_word_ptr.now row_word_indices.now row_masks.now structural_nnz column_nrows column_ncols column_word_ptr.now column_word_indices.now column_masks.now column_structural_nnz) nrows ncols matrix_nrows matrix_ncols) (arrays_check nrows len seeds.old (side_holds row_word_ptr.now row_word_indices.now row_masks.now) (stored row_ptr.now col_idx.now) hops.now rooms.now)) (ran_by nrows hops.now rooms.now region.old frontier.old scratch.old) (cut_answer (system_of nrows row_ptr.now col_idx.now values.now row_word_ptr.now row_word_indices.now row_masks.now structural_nnz column_word_ptr.now column_word_indices.now column_masks.now column_structural_nnz len seeds.old) (region_words (plain_network nrows (side_holds row_word_ptr.now row_word_indices.now row_masks.now)) seeds.old (ran_by nrows hops.now rooms.now region.old frontier.old scratch.old).total) global_nodes.old local_row_ptr.old local_col_idx.old source_ptr.old source_indices.old new_values.now out.old) }
     ensures renewed { seeds.new ≡ leaves (run_check (matrix_check matrix_nrows matrix_ncols row_ptr.now col_idx.now values.now) (square_topology (topology_check nrows ncols row_word_ptr.now row_word_indices.now row_masks.now structural_nnz column_nrows column_ncols column_word_ptr.now column_word_indices.now column_masks.now column_structural_nnz) nrows ncols matrix_nrows matrix_ncols) (arrays_check nrows len seeds.old (side_holds row_word_ptr.now row_word_indices.now row_masks.now) (stored row_ptr.now col_idx.now) hops.now rooms.now)) (seeds_after (plain_network nrows (side_holds row_word_ptr.now row_word_indices.now row_masks.now)) (ran_by nrows hops.now rooms.now region.old frontier.old scratch.old) seeds.old) seeds.old }
     ensures inside { region.new ≡ leaves (run_check (matrix_check matrix_nrows matrix_ncols row_ptr.now col_idx.now values.now) (square_topology (topology_check nrows ncols row_word_ptr.now row_word_indices.now row_masks.now structural_nnz column_nrows column_ncols column_word_ptr.now column_word_indices.now column_masks.now column_structural_nnz) nrows ncols matrix_nrows matrix_ncols) (arrays_check nrows len seeds.old (side_holds row_word_ptr.now row_word_indices.now row_masks.now) (stored row_ptr.now col_idx.now) hops.now rooms.now)) (region_once_grown (plain_network nrows (side_holds row_word_ptr.now row_word_indices.now row_masks.now)) (ran_by nrows hops.now rooms.now region.old frontier.old scratch.old) seeds.old region.old) region.old }
@@ -271,7 +256,7 @@ pub fn run_growths(
     ensures sources { source_indices.new ≡ run_left (run_check (matrix_check matrix_nrows matrix_ncols row_ptr.now col_idx.now values.now) (square_topology (topology_check nrows ncols row_word_ptr.now row_word_indices.now row_masks.now structural_nnz column_nrows column_ncols column_word_ptr.now column_word_indices.now column_masks.now column_structural_nnz) nrows ncols matrix_nrows matrix_ncols) (arrays_check nrows len seeds.old (side_holds row_word_ptr.now row_word_indices.now row_masks.now) (stored row_ptr.now col_idx.now) hops.now rooms.now)) (ran_by nrows hops.now rooms.now region.old frontier.old scratch.old) (plan_cut (system_of nrows row_ptr.now col_idx.now values.now row_word_ptr.now row_word_indices.now row_masks.now structural_nnz column_word_ptr.now column_word_indices.now column_masks.now column_structural_nnz len seeds.old) (region_words (plain_network nrows (side_holds row_word_ptr.now row_word_indices.now row_masks.now)) seeds.old (ran_by nrows hops.now rooms.now region.old frontier.old scratch.old).total) global_nodes.old local_row_ptr.old local_col_idx.old source_ptr.old source_indices.old).sources source_indices.old }
     ensures filled { out.new ≡ run_left (run_check (matrix_check matrix_nrows matrix_ncols row_ptr.now col_idx.now values.now) (square_topology (topology_check nrows ncols row_word_ptr.now row_word_indices.now row_masks.now structural_nnz column_nrows column_ncols column_word_ptr.now column_word_indices.now column_masks.now column_structural_nnz) nrows ncols matrix_nrows matrix_ncols) (arrays_check nrows len seeds.old (side_holds row_word_ptr.now row_word_indices.now row_masks.now) (stored row_ptr.now col_idx.now) hops.now rooms.now)) (ran_by nrows hops.now rooms.now region.old frontier.old scratch.old) (values_cut (system_of nrows row_ptr.now col_idx.now values.now row_word_ptr.now row_word_indices.now row_masks.now structural_nnz column_word_ptr.now column_word_indices.now column_masks.now column_structural_nnz len seeds.old) (region_words (plain_network nrows (side_holds row_word_ptr.now row_word_indices.now row_masks.now)) seeds.old (ran_by nrows hops.now rooms.now region.old frontier.old scratch.old).total) global_nodes.old local_row_ptr.old local_col_idx.old source_ptr.old source_indices.old new_values.now out.old) out.old }
 {
-    match check_run(
+    check_run(
         nrows,
         ncols,
         row_word_ptr,
@@ -293,56 +278,52 @@ pub fn run_growths(
         seeds,
         hops,
         rooms,
-    ) {
-        Checked::Refused(r) => RunAnswer::Refused(r),
-        Checked::Accepted => {
-            let ran = growths::inner::grow_list(
-                nrows,
-                ncols,
-                row_word_ptr,
-                row_word_indices,
-                row_masks,
-                structural_nnz,
-                column_nrows,
-                column_ncols,
-                column_word_ptr,
-                column_word_indices,
-                column_masks,
-                column_structural_nnz,
-                len,
-                seeds,
-                hops,
-                rooms,
-                region,
-                frontier,
-                scratch,
-            );
-            inner::finish(
-                ran,
-                nrows,
-                row_ptr,
-                col_idx,
-                values,
-                row_word_ptr,
-                row_word_indices,
-                row_masks,
-                structural_nnz,
-                column_word_ptr,
-                column_word_indices,
-                column_masks,
-                column_structural_nnz,
-                len,
-                seeds,
-                new_values,
-                global_nodes,
-                local_row_ptr,
-                local_col_idx,
-                source_ptr,
-                source_indices,
-                out,
-            )
-        }
-    }
+    )?;
+    let ran = growths::inner::grow_list(
+        nrows,
+        ncols,
+        row_word_ptr,
+        row_word_indices,
+        row_masks,
+        structural_nnz,
+        column_nrows,
+        column_ncols,
+        column_word_ptr,
+        column_word_indices,
+        column_masks,
+        column_structural_nnz,
+        len,
+        seeds,
+        hops,
+        rooms,
+        region,
+        frontier,
+        scratch,
+    );
+    Ok(inner::finish(
+        ran,
+        nrows,
+        row_ptr,
+        col_idx,
+        values,
+        row_word_ptr,
+        row_word_indices,
+        row_masks,
+        structural_nnz,
+        column_word_ptr,
+        column_word_indices,
+        column_masks,
+        column_structural_nnz,
+        len,
+        seeds,
+        new_values,
+        global_nodes,
+        local_row_ptr,
+        local_col_idx,
+        source_ptr,
+        source_indices,
+        out,
+    ))
 }
 
 // The same with field growths under one layout.
@@ -383,7 +364,7 @@ pub fn run_field_growths(
     source_ptr: &mut [u32],
     source_indices: &mut [u32],
     out: &mut [f64],
-) -> RunAnswer
+) -> Result<GrowthRun, Refusal>
     ensures value { result ≡ run_answer (field_run_check (matrix_check matrix_nrows matrix_ncols row_ptr.now col_idx.now values.now) (square_topology (topology_check nrows ncols row_word_ptr.now row_word_indices.now row_masks.now structural_nnz column_nrows column_ncols column_word_ptr.now column_word_indices.now column_masks.now column_structural_nnz) nrows ncols matrix_nrows matrix_ncols) (square_check entity_kinds.now entity_ids.now field_ids.now components.now offsets.now nrows ncols) (arrays_check nrows len seeds.old (side_holds row_word_ptr.now row_word_indices.now row_masks.now) (stored row_ptr.now col_idx.now) hops.now rooms.now)) (ran_by nrows hops.now rooms.now region.old frontier.old scratch.old) (cut_answer (system_of nrows row_ptr.now col_idx.now values.now row_word_ptr.now row_word_indices.now row_masks.now structural_nnz column_word_ptr.now column_word_indices.now column_masks.now column_structural_nnz len seeds.old) (region_words (field_network components.now (side_holds row_word_ptr.now row_word_indices.now row_masks.now)) seeds.old (ran_by nrows hops.now rooms.now region.old frontier.old scratch.old).total) global_nodes.old local_row_ptr.old local_col_idx.old source_ptr.old source_indices.old new_values.now out.old) }
     ensures renewed { seeds.new ≡ leaves (field_run_check (matrix_check matrix_nrows matrix_ncols row_ptr.now col_idx.now values.now) (square_topology (topology_check nrows ncols row_word_ptr.now row_word_indices.now row_masks.now structural_nnz column_nrows column_ncols column_word_ptr.now column_word_indices.now column_masks.now column_structural_nnz) nrows ncols matrix_nrows matrix_ncols) (square_check entity_kinds.now entity_ids.now field_ids.now components.now offsets.now nrows ncols) (arrays_check nrows len seeds.old (side_holds row_word_ptr.now row_word_indices.now row_masks.now) (stored row_ptr.now col_idx.now) hops.now rooms.now)) (seeds_after (field_network components.now (side_holds row_word_ptr.now row_word_indices.now row_masks.now)) (ran_by nrows hops.now rooms.now region.old frontier.old scratch.old) seeds.old) seeds.old }
     ensures inside { region.new ≡ leaves (field_run_check (matrix_check matrix_nrows matrix_ncols row_ptr.now col_idx.now values.now) (square_topology (topology_check nrows ncols row_word_ptr.now row_word_indices.now row_masks.now structural_nnz column_nrows column_ncols column_word_ptr.now column_word_indices.now column_masks.now column_structural_nnz) nrows ncols matrix_nrows matrix_ncols) (square_check entity_kinds.now entity_ids.now field_ids.now components.now offsets.now nrows ncols) (arrays_check nrows len seeds.old (side_holds row_word_ptr.now row_word_indices.now row_masks.now) (stored row_ptr.now col_idx.now) hops.now rooms.now)) (region_once_grown (field_network components.now (side_holds row_word_ptr.now row_word_indices.now row_masks.now)) (ran_by nrows hops.now rooms.now region.old frontier.old scratch.old) seeds.old region.old) region.old }
@@ -396,7 +377,7 @@ pub fn run_field_growths(
     ensures sources { source_indices.new ≡ run_left (field_run_check (matrix_check matrix_nrows matrix_ncols row_ptr.now col_idx.now values.now) (square_topology (topology_check nrows ncols row_word_ptr.now row_word_indices.now row_masks.now structural_nnz column_nrows column_ncols column_word_ptr.now column_word_indices.now column_masks.now column_structural_nnz) nrows ncols matrix_nrows matrix_ncols) (square_check entity_kinds.now entity_ids.now field_ids.now components.now offsets.now nrows ncols) (arrays_check nrows len seeds.old (side_holds row_word_ptr.now row_word_indices.now row_masks.now) (stored row_ptr.now col_idx.now) hops.now rooms.now)) (ran_by nrows hops.now rooms.now region.old frontier.old scratch.old) (plan_cut (system_of nrows row_ptr.now col_idx.now values.now row_word_ptr.now row_word_indices.now row_masks.now structural_nnz column_word_ptr.now column_word_indices.now column_masks.now column_structural_nnz len seeds.old) (region_words (field_network components.now (side_holds row_word_ptr.now row_word_indices.now row_masks.now)) seeds.old (ran_by nrows hops.now rooms.now region.old frontier.old scratch.old).total) global_nodes.old local_row_ptr.old local_col_idx.old source_ptr.old source_indices.old).sources source_indices.old }
     ensures filled { out.new ≡ run_left (field_run_check (matrix_check matrix_nrows matrix_ncols row_ptr.now col_idx.now values.now) (square_topology (topology_check nrows ncols row_word_ptr.now row_word_indices.now row_masks.now structural_nnz column_nrows column_ncols column_word_ptr.now column_word_indices.now column_masks.now column_structural_nnz) nrows ncols matrix_nrows matrix_ncols) (square_check entity_kinds.now entity_ids.now field_ids.now components.now offsets.now nrows ncols) (arrays_check nrows len seeds.old (side_holds row_word_ptr.now row_word_indices.now row_masks.now) (stored row_ptr.now col_idx.now) hops.now rooms.now)) (ran_by nrows hops.now rooms.now region.old frontier.old scratch.old) (values_cut (system_of nrows row_ptr.now col_idx.now values.now row_word_ptr.now row_word_indices.now row_masks.now structural_nnz column_word_ptr.now column_word_indices.now column_masks.now column_structural_nnz len seeds.old) (region_words (field_network components.now (side_holds row_word_ptr.now row_word_indices.now row_masks.now)) seeds.old (ran_by nrows hops.now rooms.now region.old frontier.old scratch.old).total) global_nodes.old local_row_ptr.old local_col_idx.old source_ptr.old source_indices.old new_values.now out.old) out.old }
 {
-    match check_field_run(
+    check_field_run(
         nrows,
         ncols,
         row_word_ptr,
@@ -423,59 +404,55 @@ pub fn run_field_growths(
         seeds,
         hops,
         rooms,
-    ) {
-        Checked::Refused(r) => RunAnswer::Refused(r),
-        Checked::Accepted => {
-            let ran = growths::inner::grow_field_list(
-                nrows,
-                ncols,
-                row_word_ptr,
-                row_word_indices,
-                row_masks,
-                structural_nnz,
-                column_nrows,
-                column_ncols,
-                column_word_ptr,
-                column_word_indices,
-                column_masks,
-                column_structural_nnz,
-                entity_kinds,
-                entity_ids,
-                field_ids,
-                components,
-                offsets,
-                len,
-                seeds,
-                hops,
-                rooms,
-                region,
-                frontier,
-                scratch,
-            );
-            inner::finish(
-                ran,
-                nrows,
-                row_ptr,
-                col_idx,
-                values,
-                row_word_ptr,
-                row_word_indices,
-                row_masks,
-                structural_nnz,
-                column_word_ptr,
-                column_word_indices,
-                column_masks,
-                column_structural_nnz,
-                len,
-                seeds,
-                new_values,
-                global_nodes,
-                local_row_ptr,
-                local_col_idx,
-                source_ptr,
-                source_indices,
-                out,
-            )
-        }
-    }
+    )?;
+    let ran = growths::inner::grow_field_list(
+        nrows,
+        ncols,
+        row_word_ptr,
+        row_word_indices,
+        row_masks,
+        structural_nnz,
+        column_nrows,
+        column_ncols,
+        column_word_ptr,
+        column_word_indices,
+        column_masks,
+        column_structural_nnz,
+        entity_kinds,
+        entity_ids,
+        field_ids,
+        components,
+        offsets,
+        len,
+        seeds,
+        hops,
+        rooms,
+        region,
+        frontier,
+        scratch,
+    );
+    Ok(inner::finish(
+        ran,
+        nrows,
+        row_ptr,
+        col_idx,
+        values,
+        row_word_ptr,
+        row_word_indices,
+        row_masks,
+        structural_nnz,
+        column_word_ptr,
+        column_word_indices,
+        column_masks,
+        column_structural_nnz,
+        len,
+        seeds,
+        new_values,
+        global_nodes,
+        local_row_ptr,
+        local_col_idx,
+        source_ptr,
+        source_indices,
+        out,
+    ))
 }

@@ -1,5 +1,6 @@
 -- What an accepted matrix gives, and the laws of `stored`. Assumes nothing.
 use mathlib.Core.Path.{◌≡◌, sym, ap, ◌∙◌, subst}
+use Rattle.std.specs.Prelude.{Ok}
 use mathlib.Core.Bool.{Bool, true, false, ◌||◌}
 use mathlib.Core.List.{List, [], ◌∷◌}
 use mathlib.Core.Logic.{◌⊎◌, inl, inr}
@@ -14,14 +15,13 @@ use lib.ListN.{length, get_or, get_or-eq_default}
 use lib.Seq.{slice, drop-nil, length-slice}
 use Rattle.base.specs.Lists.{below, is_in}
 use Rattle.base.specs.Sets.{one_if, sum_below, count_below}
-use Rattle.base.specs.declared.Checked.{Checked}
 use Rattle.base.proofs.Bools.{lt-or-le}
 use Rattle.base.proofs.Checks.{passed, both-passed}
 use Rattle.base.proofs.Sets.{sum-zero, sum-suc, sum-none, sum-add, sum-le, sum-cong}
 use Rattle.base.proofs.Lists.{every-at, pairwise-at, in-slice-at, in-slice-where, rise-to}
 use Rattle.csr32.specs.Matrix.{finite, matrix_check, row_of, stored, IsMatrix, Accepts}
 
-pub accepted : (nrows ncols : ℕ) (ptr cols : List ℕ) (values : List Float) → matrix_check nrows ncols ptr cols values ≡ Checked.Accepted
+pub accepted : (nrows ncols : ℕ) (ptr cols : List ℕ) (values : List Float) → matrix_check nrows ncols ptr cols values ≡ Ok tt
     → Accepts nrows ncols ptr cols values
 unfolding matrix_check
 accepted nrows ncols ptr cols values e =

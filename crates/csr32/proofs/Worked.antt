@@ -1,28 +1,29 @@
 -- Document 01's examples of refusals 1 to 8, and the pairs of its entries (0,1), (1,2), by computing the definitions. Assumes nothing.
 use mathlib.Core.Path.{◌≡◌, refl}
+use Rattle.std.specs.Prelude.{Ok, Err}
+use Rattle.base.specs.declared.Refusal.TheVariants.{OverLimit, RowPtrLength, EntryLengths, RowPtrStart, RowPtrEnd, RowPtrFalls, ColumnOutside, NotFinite}
 use mathlib.Core.Bool.{true, false}
 use mathlib.Core.List.{[], ◌∷◌}
 use lib.Ieee.{Float, inf, fin}
 use lib.IntN.{pos}
-use Rattle.base.specs.Checks.{plain, must, ◌then◌}
+use Rattle.base.specs.Checks.{must, ◌then◌}
 use Rattle.base.specs.Lists.{is_in}
-use Rattle.base.specs.declared.Checked.{Checked}
 use Rattle.csr32.specs.Matrix.{matrix_check, stored}
 
 abbrev one : Float
 one = fin false 1 (pos 0)
 
 pub record Refusals : Type 0 where
-  pub chain : matrix_check 3 3 (0 ∷ 1 ∷ 2 ∷ 2 ∷ []) (1 ∷ 2 ∷ []) (one ∷ one ∷ []) ≡ Checked.Accepted
-  pub widest : matrix_check 0 1048576 (0 ∷ []) [] [] ≡ Checked.Accepted
-  pub nrows : matrix_check 1048577 3 (0 ∷ []) [] [] ≡ Checked.Refused (plain 1)
-  pub pointers : matrix_check 2 3 (0 ∷ 1 ∷ []) (0 ∷ []) (one ∷ []) ≡ Checked.Refused (plain 2)
-  pub lists : matrix_check 1 3 (0 ∷ 1 ∷ []) (0 ∷ []) [] ≡ Checked.Refused (plain 3)
-  pub starts : matrix_check 1 3 (1 ∷ 1 ∷ []) (0 ∷ []) (one ∷ []) ≡ Checked.Refused (plain 4)
-  pub ends : matrix_check 1 3 (0 ∷ 2 ∷ []) (0 ∷ []) (one ∷ []) ≡ Checked.Refused (plain 5)
-  pub falls : matrix_check 2 3 (0 ∷ 2 ∷ 1 ∷ []) (0 ∷ []) (one ∷ []) ≡ Checked.Refused (plain 6)
-  pub column : matrix_check 1 3 (0 ∷ 1 ∷ []) (3 ∷ []) (one ∷ []) ≡ Checked.Refused (plain 7)
-  pub value : matrix_check 1 3 (0 ∷ 1 ∷ []) (0 ∷ []) (inf false ∷ []) ≡ Checked.Refused (plain 8)
+  pub chain : matrix_check 3 3 (0 ∷ 1 ∷ 2 ∷ 2 ∷ []) (1 ∷ 2 ∷ []) (one ∷ one ∷ []) ≡ Ok tt
+  pub widest : matrix_check 0 1048576 (0 ∷ []) [] [] ≡ Ok tt
+  pub nrows : matrix_check 1048577 3 (0 ∷ []) [] [] ≡ Err OverLimit
+  pub pointers : matrix_check 2 3 (0 ∷ 1 ∷ []) (0 ∷ []) (one ∷ []) ≡ Err RowPtrLength
+  pub lists : matrix_check 1 3 (0 ∷ 1 ∷ []) (0 ∷ []) [] ≡ Err EntryLengths
+  pub starts : matrix_check 1 3 (1 ∷ 1 ∷ []) (0 ∷ []) (one ∷ []) ≡ Err RowPtrStart
+  pub ends : matrix_check 1 3 (0 ∷ 2 ∷ []) (0 ∷ []) (one ∷ []) ≡ Err RowPtrEnd
+  pub falls : matrix_check 2 3 (0 ∷ 2 ∷ 1 ∷ []) (0 ∷ []) (one ∷ []) ≡ Err RowPtrFalls
+  pub column : matrix_check 1 3 (0 ∷ 1 ∷ []) (3 ∷ []) (one ∷ []) ≡ Err ColumnOutside
+  pub value : matrix_check 1 3 (0 ∷ 1 ∷ []) (0 ∷ []) (inf false ∷ []) ≡ Err NotFinite
 
 pub refusals : Refusals
 unfolding matrix_check must ◌then◌

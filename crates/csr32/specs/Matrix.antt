@@ -1,10 +1,11 @@
 -- The check of a matrix, refusals 1 to 8 of document 01 in order, and the pairs that a matrix stores.
 use Rattle.std.specs.Prelude.{◌≡◌, ℕ, ◌+◌, ◌≤◌, ◌<◌, Bool, true, false, List, length, get_or, leb, eqb, Float}
+use Rattle.base.specs.Checks.{Check}
+use Rattle.base.specs.declared.Refusal.TheVariants.{OverLimit, RowPtrLength, EntryLengths, RowPtrStart, RowPtrEnd, RowPtrFalls, ColumnOutside, NotFinite}
 use Rattle.std.proofs.Math.Seq.{slice}
 use Rattle.std.specs.Float.{nan, inf, fin}
 use Rattle.base.specs.Checks.{must, ◌then◌, side_limit, entry_limit}
 use Rattle.base.specs.Lists.{every, rising, below, is_in}
-use Rattle.base.specs.declared.Checked.{Checked}
 
 -- neither a NaN nor an infinity
 abbrev pub finite : Float → Bool
@@ -12,19 +13,19 @@ finite nan = false
 finite (inf s) = false
 finite (fin s m e) = true
 
-unfoldable pub matrix_check : ℕ → ℕ → List ℕ → List ℕ → List Float → Checked
+unfoldable pub matrix_check : ℕ → ℕ → List ℕ → List ℕ → List Float → Check
 matrix_check nrows ncols ptr cols values =
-    must (leb nrows side_limit) 1
-    then must (leb ncols side_limit) 1
-    then must (leb (length cols) entry_limit) 1
-    then must (leb (length values) entry_limit) 1
-    then must (eqb (length ptr) (nrows + 1)) 2
-    then must (eqb (length cols) (length values)) 3
-    then must (eqb (get_or ptr 0 0) 0) 4
-    then must (eqb (get_or ptr nrows 0) (length values)) 5
-    then must (rising ptr) 6
-    then must (every (below ncols) cols) 7
-    then must (every finite values) 8
+    must (leb nrows side_limit) OverLimit
+    then must (leb ncols side_limit) OverLimit
+    then must (leb (length cols) entry_limit) OverLimit
+    then must (leb (length values) entry_limit) OverLimit
+    then must (eqb (length ptr) (nrows + 1)) RowPtrLength
+    then must (eqb (length cols) (length values)) EntryLengths
+    then must (eqb (get_or ptr 0 0) 0) RowPtrStart
+    then must (eqb (get_or ptr nrows 0) (length values)) RowPtrEnd
+    then must (rising ptr) RowPtrFalls
+    then must (every (below ncols) cols) ColumnOutside
+    then must (every finite values) NotFinite
 
 -- the columns of row r's entries, in stored order
 abbrev pub row_of : List ℕ → List ℕ → ℕ → List ℕ

@@ -5,7 +5,7 @@ ghost use Rattle.std.specs.Prelude.{◌≡◌};
 ghost use Rattle.base.specs.Lists.{every};
 ghost use Rattle.csr32.specs.Matrix.{finite, matrix_check};
 
-use base::Checked;
+use base::Refusal;
 
 // Neither infinite nor a NaN: only a finite number less itself is zero.
 pub fn is_finite(x: f64) -> bool
@@ -19,57 +19,56 @@ pub fn all_finite(s: &[f64]) -> bool
     ensures { result ≡ every finite s.now }
 {
     let mut all = true;
-    let mut i: usize = 0;
-    while i < s.len() {
-        if !is_finite(s[i]) {
+    for x in s {
+        if !is_finite(*x) {
             all = false;
         }
-        i += 1;
     }
     all
 }
 
+#[tactic(auto, using(base::proofs::Checks::checks), unfolding(crate::specs::Matrix::matrix_check))]
 pub fn validate(
     nrows: usize,
     ncols: usize,
     row_ptr: &[u32],
     col_idx: &[u32],
     values: &[f64],
-) -> Checked
+) -> Result<(), Refusal>
     ensures { result ≡ matrix_check nrows ncols row_ptr.now col_idx.now values.now }
 {
     if nrows > base::SIDE_LIMIT {
-        return base::refused(1);
+        return Err(Refusal::OverLimit);
     }
     if ncols > base::SIDE_LIMIT {
-        return base::refused(1);
+        return Err(Refusal::OverLimit);
     }
     if col_idx.len() > base::ENTRY_LIMIT {
-        return base::refused(1);
+        return Err(Refusal::OverLimit);
     }
     if values.len() > base::ENTRY_LIMIT {
-        return base::refused(1);
+        return Err(Refusal::OverLimit);
     }
     if row_ptr.len() != nrows + 1 {
-        return base::refused(2);
+        return Err(Refusal::RowPtrLength);
     }
     if col_idx.len() != values.len() {
-        return base::refused(3);
+        return Err(Refusal::EntryLengths);
     }
     if row_ptr[0] != 0 {
-        return base::refused(4);
+        return Err(Refusal::RowPtrStart);
     }
-    if base::wide(row_ptr[nrows]) != values.len() {
-        return base::refused(5);
+    if row_ptr[nrows] as usize != values.len() {
+        return Err(Refusal::RowPtrEnd);
     }
     if !base::scan::never_falls(row_ptr) {
-        return base::refused(6);
+        return Err(Refusal::RowPtrFalls);
     }
     if !base::scan::all_below(col_idx, ncols) {
-        return base::refused(7);
+        return Err(Refusal::ColumnOutside);
     }
     if !all_finite(values) {
-        return base::refused(8);
+        return Err(Refusal::NotFinite);
     }
-    Checked::Accepted
+    Ok(())
 }

@@ -1,6 +1,7 @@
 -- The pattern and the plan of a region in the topology of exactly the matrix's pairs: their counts, what the five lists hold once they are zeroed past
 -- them, and the statistics. Assumes nothing.
 use mathlib.Core.Path.{◌≡◌, sym, ap, ap₂, ◌∙◌}
+use Rattle.std.specs.Prelude.{Ok}
 use mathlib.Core.Bool.{Bool}
 use mathlib.Core.List.{List}
 use Prim.Native.Nat.{ℕ, ◌+◌, ◌≤◌}
@@ -9,7 +10,6 @@ use lib.ListN.{length}
 use Rattle.base.specs.Checks.{side_limit}
 use Rattle.base.specs.Lists.{over, over_with_zeros, zeroed, join_below}
 use Rattle.base.specs.Sets.{count_below, members_below}
-use Rattle.base.specs.declared.Checked.{Checked}
 use Rattle.base.proofs.Lists.{length-list_from, over_zeros}
 use Rattle.base.proofs.Sets.{count-le, count-members}
 use Rattle.csr32.specs.Matrix.{stored, IsMatrix}
@@ -37,7 +37,7 @@ use Rattle.cutting.specs.declared.LocalStats.{LocalStats}
 
 module _ (n : ℕ) (p : ℕ → Bool) (s : ℕ → ℕ → Bool) (ptr cols : List ℕ) (m : IsMatrix n n ptr cols) (same : s ≡ stored ptr cols) where
   -- neither 23 nor 24
-  pub binds : binding_check n p s (stored ptr cols) ≡ Checked.Accepted
+  pub binds : binding_check n p s (stored ptr cols) ≡ Ok tt
   binds = ap (λ (t : ℕ → ℕ → Bool). binding_check n p t (stored ptr cols)) same ∙ binds-itself n p (stored ptr cols)
 
   -- a region has no more pairs than sources, and no more of these than the matrix has entries

@@ -37,11 +37,11 @@ fn zero_past(
     ensures source_pointers { source_ptr.new ≡ zeroed (counts.pairs + 1) (entries + 1) source_ptr.old }
     ensures sources { source_indices.new ≡ zeroed counts.sources entries source_indices.old }
 {
-    base::inner::zero(global_nodes, counts.members, n);
-    base::inner::zero(local_row_ptr, counts.members + 1, n + 1);
-    base::inner::zero(local_col_idx, counts.pairs, entries);
-    base::inner::zero(source_ptr, counts.pairs + 1, entries + 1);
-    base::inner::zero(source_indices, counts.sources, entries);
+    global_nodes[counts.members..n].fill(0);
+    local_row_ptr[counts.members + 1..n + 1].fill(0);
+    local_col_idx[counts.pairs..entries].fill(0);
+    source_ptr[counts.pairs + 1..entries + 1].fill(0);
+    source_indices[counts.sources..entries].fill(0);
 }
 
 // The pattern and the plan of a region in the topology of exactly the matrix's pairs: each list zero past its own part up to its needed length.

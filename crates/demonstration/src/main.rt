@@ -1,8 +1,8 @@
 // Prints document 01's own examples of words, matrices, masks, layouts, topologies and regions, as the port answers them, and one list of growths.
 #![tactic(auto)]
 
-use base::Counted;
-use claims::RunAnswer;
+use base::Refusal;
+use claims::GrowthRun;
 use hybit_matrix::Answer;
 use std::io;
 
@@ -367,7 +367,13 @@ fn runs(rt: &impl Print) -> io::Result<()> {
         &mut sources,
         &mut values,
     );
-    if let RunAnswer::Grown(ran, cut) = answer {
+    if let Ok(
+        GrowthRun {
+            ran,
+            cut: Some(cut),
+        },
+    ) = answer
+    {
         figure(
             rt,
             "growths by 1, 5 (refused) and 1, accepted",
@@ -377,7 +383,7 @@ fn runs(rt: &impl Print) -> io::Result<()> {
         members(rt, "the region then", &region)?;
         members(rt, "the frontier then", &frontier)?;
         let gathered = cut.gathered;
-        if let Counted::Count(pairs) = gathered {
+        if let Ok(pairs) = gathered {
             figure(rt, "gathered values", pairs)?;
         }
         figure(

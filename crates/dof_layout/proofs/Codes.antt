@@ -4,7 +4,7 @@ use mathlib.Core.Bool.{Bool, true, false, ◌&&◌, ◌||◌}
 use mathlib.Core.Logic.{◌⊎◌, inl, inr}
 use Prim.Native.Nat.{ℕ, zero, suc, ◌≤◌, ◌<◌}
 use native.Mathlib.Omega.{arith}
-use borrow.Author.Tests.{ne_eqb, le-leb, lt-leb, lt-ltb, le-ltb, eqb-true, ltb-true}
+use borrow.Author.Tests.{ne_eqb, le-leb, lt-leb, le-ltb, eqb-true, ltb-true}
 use lib.Dec.{T, leb, ltb, eqb}
 use Rattle.base.proofs.Bools.{and_right, or-e, T_true, T_of, lt-or-le}
 use Rattle.base.specs.Sets.{between}
@@ -15,15 +15,6 @@ use Rattle.dof_layout.specs.Answers.{code_of, kind_named}
 pub no_kind : (k : ℕ) → between 1 7 k ≡ false → (k ≡ 255 → ⊥) → is_kind_code k ≡ false
 unfolding is_kind_code
 no_kind k e n = ap₂ ◌||◌ e (ne_eqb k 255 n)
-
--- what the code's tests say: 1 to 6, or from 7 on just 255
-pub low-kind : (k : ℕ) → (k ≡ 0 → ⊥) → k < 7 → true ≡ is_kind_code k
-unfolding is_kind_code
-low-kind k n l = sym (ap₂ (λ (s t : Bool). (s && t) || eqb k 255) (le-leb 1 k (omega arith)) (lt-ltb k 7 l))
-
-pub high-kind : (k : ℕ) → 7 ≤ k → eqb k 255 ≡ is_kind_code k
-unfolding is_kind_code
-high-kind k l = sym (ap₂ (λ (s t : Bool). (s && t) || eqb k 255) (le-leb 1 k (omega arith)) (le-ltb k 7 l))
 
 pub outside : (k : ℕ) → (k ≡ 1 → ⊥) → (k ≡ 2 → ⊥) → (k ≡ 3 → ⊥) → (k ≡ 4 → ⊥) → (k ≡ 5 → ⊥) → (k ≡ 6 → ⊥) → between 1 7 k ≡ false
 outside k a b c d e f = go (lt-or-le k 1) (lt-or-le k 7)

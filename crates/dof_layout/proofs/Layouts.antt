@@ -1,6 +1,8 @@
 -- Laws of layouts: running totals, the one block of each node, what each check of a block says, and what an accepted layout is.
 -- Assumes nothing.
 use mathlib.Core.Path.{◌≡◌, refl, sym, ap, ◌∙◌, subst}
+use Rattle.std.specs.Prelude.{Ok, Err}
+use Rattle.base.specs.declared.Refusal.TheVariants.{OverLimit}
 use mathlib.Core.Logic.{◌⊎◌, inl, inr, ◌≢◌}
 use mathlib.Core.Bool.{true, false, not}
 use mathlib.Core.List.{List}
@@ -12,12 +14,11 @@ use borrow.Author.Tests.{eq-eqb, ne_eqb, le-leb, lt-leb, leb-true, eqb-false, no
 use lib.Dec.{T, leb, ltb, eqb, leb→le, ltb→lt, le→leb, lt→ltb}
 use lib.ListN.{length, get_or}
 use lib.Seq.{ext_get_or}
-use Rattle.base.specs.Checks.{plain, side_limit}
+use Rattle.base.specs.Checks.{side_limit}
 use Rattle.base.specs.Lists.{same_list}
 use Rattle.base.specs.Sets.{any_below}
-use Rattle.base.specs.declared.Checked.{Checked}
 use Rattle.base.proofs.Bools.{and_l, and_r, and_i, eq-or-ne}
-use Rattle.base.proofs.Checks.{pass, stop, group-pass, last-pass, last-stop, passed, length-passed, both-passed, checks-passed}
+use Rattle.base.proofs.Checks.{checks, group-pass, last-pass, passed, length-passed, both-passed, checks-passed}
 use Rattle.base.proofs.Lists.{length-list_from, get_or-list_from, same-list, list_same, other-list, step_of}
 use Rattle.base.proofs.Sets.{first-is, sum-zero, sum-suc, sum_mono}
 use Rattle.twins.specs.Keys.{same_key}
@@ -41,6 +42,10 @@ module _ (components : List ℕ) where
   unfolding start_of
   start-mono a b h = sum_mono a b (λ i. get_or components i 0) h
 
+  -- the nodes of a block are nodes of the layout
+  pub start_within : (b : ℕ) → b < length components → start_of components b + get_or components b 0 ≤ total_of components
+  start_within b h = omega (arith, start-next b, start-mono (b + 1) (length components))
+
   pub offsets-length : length (offsets_of components) ≡ suc (length components)
   unfolding offsets_of
   offsets-length = length-list_from (start_of components) (suc (length components)) 0
@@ -48,6 +53,9 @@ module _ (components : List ℕ) where
   pub offset_at : (b : ℕ) → b ≤ length components → get_or (offsets_of components) b 0 ≡ start_of components b
   unfolding offsets_of
   offset_at b h = get_or-list_from (start_of components) (suc (length components)) 0 b 0 (omega arith) ∙ ap (start_of components) (zero-add b)
+
+  -- what a loop over the totals needs
+  pub ruleset totals = (start-zero, start-next, start_within, offsets-length, offset_at, other-list)
 
   -- a list of that length with those totals
   pub offsets_are : (l : List ℕ) → length l ≡ suc (length components) → ((b : ℕ) → b ≤ length components → get_or l b 0 ≡ start_of components b) → l ≡ offsets_of components
@@ -114,40 +122,22 @@ total-is offsets components e = total-at offsets components (length components) 
 pub offsets-count : (offsets components : List ℕ) → offsets ≡ offsets_of components → length offsets ≡ suc (length components)
 offsets-count offsets components e = ap length e ∙ offsets-length components
 
--- ---- what each check of block b says
+-- ---- what the last check of block b says, and what acceptance gives
 
-module _ (kinds ids fields components : List ℕ) (b : ℕ) where
-  pub block-17 : is_kind_code (get_or kinds b 0) ≡ false → block_check kinds ids fields components b ≡ Checked.Refused (plain 17)
+module _ (kinds ids fields components : List ℕ) (b : ℕ) (kind : is_kind_code (get_or kinds b 0) ≡ true) (some : get_or components b 0 ≢ 0) (new : any_below b (λ a. same_key kinds ids fields a b) ≡ false) where
+  first : not (any_below b (λ a. same_key kinds ids fields a b)) ≡ true
+  first = ap not new
+
+  pub block_1 : side_limit < start_of components b + get_or components b 0 → block_check kinds ids fields components b ≡ Err OverLimit
   unfolding block_check
-  block-17 k = sym (stop _ _ _ _ k refl)
+  block_1 l = let e : leb (start_of components (suc b)) side_limit ≡ false = lt-leb _ _ (omega (arith, start-suc components b)) in sym (search (checks, first) depth 20)
 
-  pub block-15 : is_kind_code (get_or kinds b 0) ≡ true → get_or components b 0 ≡ 0 → block_check kinds ids fields components b ≡ Checked.Refused (plain 15)
+  pub block-ok : start_of components b + get_or components b 0 ≤ side_limit → block_check kinds ids fields components b ≡ Ok tt
   unfolding block_check
-  block-15 k z = sym (pass _ _ _ _ k (stop _ _ _ _ (ap not (eq-eqb _ _ z)) refl))
-
-  module _ (k : is_kind_code (get_or kinds b 0) ≡ true) (z : get_or components b 0 ≢ 0) where
-    pub block-16 : any_below b (λ a. same_key kinds ids fields a b) ≡ true → block_check kinds ids fields components b ≡ Checked.Refused (plain 16)
-    unfolding block_check
-    block-16 r = sym (pass _ _ _ _ k (pass _ _ _ _ (ap not (ne_eqb _ _ z)) (stop _ _ _ _ (ap not r) refl)))
-
-    pub block_1 : any_below b (λ a. same_key kinds ids fields a b) ≡ false → side_limit < start_of components b + get_or components b 0
-        → block_check kinds ids fields components b ≡ Checked.Refused (plain 1)
-    unfolding block_check
-    block_1 r l =
-        sym
-        (pass _ _ _ _ k (pass _ _ _ _ (ap not (ne_eqb _ _ z)) (pass _ _ _ _ (ap not r)
-        (last-stop _ _ _ (lt-leb _ _ (subst (λ (n : ℕ). side_limit < n) (sym (start-suc components b)) l)) refl))))
-
-    pub block-ok : any_below b (λ a. same_key kinds ids fields a b) ≡ false → start_of components b + get_or components b 0 ≤ side_limit
-        → block_check kinds ids fields components b ≡ Checked.Accepted
-    unfolding block_check
-    block-ok r l =
-        sym
-        (pass _ _ _ _ k (pass _ _ _ _ (ap not (ne_eqb _ _ z)) (pass _ _ _ _ (ap not r)
-        (last-pass _ _ _ (le-leb _ _ (subst (λ (n : ℕ). n ≤ side_limit) (sym (start-suc components b)) l)) refl))))
+  block-ok l = let e : leb (start_of components (suc b)) side_limit ≡ true = le-leb _ _ (omega (arith, start-suc components b)) in sym (search (checks, first) depth 20)
 
 -- what an accepted block gives: it is not empty, and its nodes are within the limit
-pub block-passed : (kinds ids fields components : List ℕ) (b : ℕ) → block_check kinds ids fields components b ≡ Checked.Accepted
+pub block-passed : (kinds ids fields components : List ℕ) (b : ℕ) → block_check kinds ids fields components b ≡ Ok tt
     → (0 < get_or components b 0) × (start_of components (suc b) ≤ side_limit)
 unfolding block_check
 block-passed kinds ids fields components b e =
@@ -159,7 +149,7 @@ block-passed kinds ids fields components b e =
 
 -- ---- an accepted layout
 
-pub accepted-blocks : (kinds ids fields components : List ℕ) → blocks_check kinds ids fields components ≡ Checked.Accepted → AreBlocks kinds ids fields components
+pub accepted-blocks : (kinds ids fields components : List ℕ) → blocks_check kinds ids fields components ≡ Ok tt → AreBlocks kinds ids fields components
 unfolding blocks_check
 accepted-blocks kinds ids fields components e =
     let p = both-passed _ _ e in
@@ -187,7 +177,7 @@ accepted-blocks kinds ids fields components e =
 pub none-empty : (kinds ids fields components : List ℕ) → AreBlocks kinds ids fields components → (b : ℕ) → b < length components → 0 < get_or components b 0
 none-empty kinds ids fields components a b h = a.filled b (omega (arith, a.components_length))
 
-pub accepted-layout : (kinds ids fields components offsets : List ℕ) → layout_check kinds ids fields components offsets ≡ Checked.Accepted
+pub accepted-layout : (kinds ids fields components offsets : List ℕ) → layout_check kinds ids fields components offsets ≡ Ok tt
     → IsLayout kinds ids fields components offsets
 unfolding layout_check
 accepted-layout kinds ids fields components offsets e =
@@ -195,7 +185,7 @@ accepted-layout kinds ids fields components offsets e =
     record { blocks = accepted-blocks kinds ids fields components p.0; running = list_same _ _ (passed _ _ p.1) }
 
 -- the offsets that `new` writes are accepted with its blocks: what one call leaves, the next accepts
-pub built-accepted : (kinds ids fields components : List ℕ) → blocks_check kinds ids fields components ≡ Checked.Accepted
-    → layout_check kinds ids fields components (offsets_of components) ≡ Checked.Accepted
+pub built-accepted : (kinds ids fields components : List ℕ) → blocks_check kinds ids fields components ≡ Ok tt
+    → layout_check kinds ids fields components (offsets_of components) ≡ Ok tt
 unfolding layout_check
 built-accepted kinds ids fields components e = sym (group-pass _ _ _ e (last-pass _ _ _ (same-list (offsets_of components) (offsets_of components) refl) refl))

@@ -1,10 +1,11 @@
 -- A layout: blocks of consecutive nodes, each with a kind, an id, a field id and a component count, in four lists; once built, its offsets.
 -- Its check, and the block of a node.
 use Rattle.std.specs.Prelude.{◌≡◌, Bool, not, ◌||◌, List, ℕ, suc, ◌≤◌, ◌<◌, leb, eqb, length, get_or}
+use Rattle.base.specs.Checks.{Check}
+use Rattle.base.specs.declared.Refusal.TheVariants.{OverLimit, NoBlock, EmptyBlock, RepeatedBlock, UnknownKind, BadPointers}
 use Rattle.base.specs.Checks.{must, must_be, ◌then◌, checks_below, side_limit}
 use Rattle.base.specs.Lists.{same_list, list_from}
 use Rattle.base.specs.Sets.{between, any_below, first_below, sum_below}
-use Rattle.base.specs.declared.Checked.{Checked}
 use Rattle.twins.specs.Keys.{same_key}
 
 -- ---- blocks take consecutive nodes from 0
@@ -36,26 +37,26 @@ unfoldable pub is_kind_code : ℕ → Bool
 is_kind_code kind = between 1 7 kind || eqb kind 255
 
 -- one block: 17, 15, 16 against every earlier block, 1 for the total with it
-unfoldable pub block_check : List ℕ → List ℕ → List ℕ → List ℕ → ℕ → Checked
+unfoldable pub block_check : List ℕ → List ℕ → List ℕ → List ℕ → ℕ → Check
 block_check kinds ids fields components b =
-    must (is_kind_code (get_or kinds b 0)) 17
-    then must (not (eqb (get_or components b 0) 0)) 15
-    then must (not (any_below b (λ a. same_key kinds ids fields a b))) 16
-    then must (leb (start_of components (suc b)) side_limit) 1
+    must (is_kind_code (get_or kinds b 0)) UnknownKind
+    then must (not (eqb (get_or components b 0) 0)) EmptyBlock
+    then must (not (any_below b (λ a. same_key kinds ids fields a b))) RepeatedBlock
+    then must (leb (start_of components (suc b)) side_limit) OverLimit
 
 -- the four lists: 14, 11 for ids, fields and components against the kinds, then block by block
-unfoldable pub blocks_check : List ℕ → List ℕ → List ℕ → List ℕ → Checked
+unfoldable pub blocks_check : List ℕ → List ℕ → List ℕ → List ℕ → Check
 blocks_check kinds ids fields components =
-    must (not (eqb (length kinds) 0)) 14
+    must (not (eqb (length kinds) 0)) NoBlock
     then must_be (length kinds) (length ids)
     then must_be (length kinds) (length fields)
     then must_be (length kinds) (length components)
     then checks_below (length kinds) (block_check kinds ids fields components)
 
 -- a built layout: its blocks, then 26
-unfoldable pub layout_check : List ℕ → List ℕ → List ℕ → List ℕ → List ℕ → Checked
+unfoldable pub layout_check : List ℕ → List ℕ → List ℕ → List ℕ → List ℕ → Check
 layout_check kinds ids fields components offsets =
-    blocks_check kinds ids fields components then must (same_list offsets (offsets_of components)) 26
+    blocks_check kinds ids fields components then must (same_list offsets (offsets_of components)) BadPointers
 
 -- ---- what acceptance gives
 

@@ -2,20 +2,15 @@
 ghost use Rattle.std.specs.Prelude.{◌≡◌, ◌+◌, ◌<◌, ◌≤◌, length};
 ghost use Rattle.base.specs.Checks.{checks_below, side_limit};
 ghost use Rattle.dof_layout.specs.Layout.{is_kind_code, block_check, blocks_check};
-ghost use Rattle.twins.specs.Keys.{Keyed};
 
-use base::Checked;
+use base::Refusal;
+use twins::inner::Keys;
 
+#[tactic(auto, unfolding(crate::specs::Layout::is_kind_code))]
 fn is_kind(kind: u8) -> bool
     ensures { result ≡ is_kind_code kind }
 {
-    if kind == 0 {
-        return false;
-    }
-    if kind < 7 {
-        return true;
-    }
-    kind == 255
+    kind != 0 && (kind < 7 || kind == 255)
 }
 
 // Up to which block twins are searched next. It grows with what is checked, so that an early refusal costs little.
@@ -23,65 +18,61 @@ fn reach_from(b: usize, count: usize) -> usize
     requires { (b < count) × (b ≤ side_limit) }
     ensures { (b < result) × (result ≤ count) × (result ≤ side_limit + 1) }
 {
-    let reach = 4 * b + 64;
-    if reach <= base::SIDE_LIMIT {
-        if count < reach {
-            return count;
-        }
-        return reach;
-    }
-    if count <= base::SIDE_LIMIT {
-        return count;
-    }
-    base::SIDE_LIMIT + 1
+    (4 * b + 64).min(count).min(base::SIDE_LIMIT + 1)
 }
 
 // The first block that is refused decides. Every block that passes has a component at least: no block past the limit is reached.
-fn check_each(kinds: &[u8], ids: &[u64], fields: &[u32], components: &[u32]) -> Checked
-    requires { Keyed kinds.now ids.now fields.now × (length components.now ≡ length kinds.now) }
-    ensures { result ≡ checks_below (length kinds.now) (block_check kinds.now ids.now fields.now components.now) }
+fn check_each(keys: Keys, components: &[u32]) -> Result<(), Refusal>
+    requires { length components.now ≡ length keys.kinds.now }
+    ensures { result ≡ checks_below (length keys.entry.kinds.now) (block_check keys.entry.kinds.now keys.entry.ids.now keys.entry.fields.now components.now) }
 {
     let mut total: u64 = 0;
-    let mut b: usize = 0;
-    while b < kinds.len() {
-        let reach = reach_from(b, kinds.len());
-        let twin = twins::inner::first_twin(kinds, ids, fields, reach);
-        while b < reach {
-            if !is_kind(kinds[b]) {
-                return base::refused(17);
+    let mut from: usize = 0;
+    while from < keys.kinds.len() {
+        let reach = reach_from(from, keys.kinds.len());
+        let twin = twins::inner::first_twin(keys, reach);
+        for b in from..reach {
+            if !is_kind(keys.kinds[b]) {
+                return Err(Refusal::UnknownKind);
             }
             let size = components[b];
             if size == 0 {
-                return base::refused(15);
+                return Err(Refusal::EmptyBlock);
             }
             if b == twin {
-                return base::refused(16);
+                return Err(Refusal::RepeatedBlock);
             }
             total += size as u64;
             if total > base::SIDE_LIMIT as u64 {
-                return base::refused(1);
+                return Err(Refusal::OverLimit);
             }
-            b += 1;
         }
+        from = reach;
     }
-    Checked::Accepted
+    Ok(())
 }
 
-pub(crate) fn check(kinds: &[u8], ids: &[u64], fields: &[u32], components: &[u32]) -> Checked
+#[tactic(auto, using(base::proofs::Checks::checks), unfolding(crate::specs::Layout::blocks_check))]
+pub(crate) fn check(
+    kinds: &[u8],
+    ids: &[u64],
+    fields: &[u32],
+    components: &[u32],
+) -> Result<(), Refusal>
     ensures { result ≡ blocks_check kinds.now ids.now fields.now components.now }
 {
     let count = kinds.len();
     if count == 0 {
-        return base::refused(14);
+        return Err(Refusal::NoBlock);
     }
     if ids.len() != count {
-        return base::wrong_length(count, ids.len());
+        return Err(Refusal::wrong_length(count, ids.len()));
     }
     if fields.len() != count {
-        return base::wrong_length(count, fields.len());
+        return Err(Refusal::wrong_length(count, fields.len()));
     }
     if components.len() != count {
-        return base::wrong_length(count, components.len());
+        return Err(Refusal::wrong_length(count, components.len()));
     }
-    check_each(kinds, ids, fields, components)
+    check_each(Keys { kinds, ids, fields }, components)
 }

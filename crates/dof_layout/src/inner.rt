@@ -8,23 +8,23 @@ ghost use Rattle.dof_layout.specs.Answers.{has_field};
 ghost use Rattle.dof_layout.specs.Runs.{Run};
 
 // The running totals at the front of `out`, which has room for them; answers the total.
+#[tactic(auto, using(crate::proofs::Layouts::totals))]
 pub fn write_offsets(components: &[u32], out: &mut [u64]) -> u64
     requires { (total_of components.now < 18446744073709551616) × (length components.now < length out.old) }
     ensures value { result ≡ total_of components.now }
     ensures out_after { out.new ≡ over (offsets_of components.now) out.old }
 {
     let mut total: u64 = 0;
-    let mut b: usize = 0;
-    while b < components.len() {
+    for (b, size) in components.iter().enumerate() {
         out[b] = total;
-        total += components[b] as u64;
-        b += 1;
+        total += *size as u64;
     }
-    out[b] = total;
+    out[components.len()] = total;
     total
 }
 
 // The offsets are the running totals, their length included.
+#[tactic(auto, using(crate::proofs::Layouts::totals))]
 pub fn are_offsets(components: &[u32], offsets: &[u64]) -> bool
     requires { total_of components.now ≤ side_limit }
     ensures { result ≡ same_list offsets.now (offsets_of components.now) }
@@ -33,15 +33,13 @@ pub fn are_offsets(components: &[u32], offsets: &[u64]) -> bool
         return false;
     }
     let mut total: u64 = 0;
-    let mut b: usize = 0;
-    while b < components.len() {
+    for (b, size) in components.iter().enumerate() {
         if offsets[b] != total {
             return false;
         }
-        total += components[b] as u64;
-        b += 1;
+        total += *size as u64;
     }
-    offsets[b] == total
+    offsets[components.len()] == total
 }
 
 // The block of node `dof`, which lies between the offsets at `low` and at `high`: the half of them that brackets it.
@@ -65,14 +63,12 @@ fn run_end(fields: &[u32], field: u32, a: usize) -> usize
     requires { a ≤ length fields.now }
     ensures { Run fields.now field a result }
 {
-    let mut b = a;
-    while b < fields.len() {
+    for b in a..fields.len() {
         if fields[b] != field {
             return b;
         }
-        b += 1;
     }
-    b
+    fields.len()
 }
 
 // The mask of the nodes whose block has the field, on a list of exactly its words. Neighbouring blocks of the field are one range.

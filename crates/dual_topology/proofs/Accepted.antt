@@ -1,5 +1,7 @@
 -- What the check of a topology accepts: exactly two sides of one set of pairs. Assumes nothing.
 use mathlib.Core.Path.{◌≡◌, refl, sym, ap, ◌∙◌, subst, fun_ext}
+use Rattle.std.specs.Prelude.{Ok}
+use Rattle.base.specs.Checks.{Check}
 use mathlib.Core.Logic.{◌⊎◌, inl, inr}
 use mathlib.Core.Bool.{Bool, true, false, cond, ◌&&◌}
 use mathlib.Core.List.{List}
@@ -9,7 +11,6 @@ use borrow.Author.Tests.{eqb-true, eq-eqb, ltb-true}
 use lib.Dec.{T, eqb}
 use lib.ListN.{length, get_or}
 use Rattle.base.specs.Checks.{◌then◌, side_limit, entry_limit}
-use Rattle.base.specs.declared.Checked.{Checked}
 use Rattle.base.proofs.Bools.{and_left, and_right, T_true, T_false, lt-or-le}
 use Rattle.base.proofs.Checks.{both-passed, passed}
 use Rattle.side.specs.Side.{flip, side_words, side_masks, side_ptr, pair_count, side_holds}
@@ -87,7 +88,7 @@ module _ (nrows ncols : ℕ) (ptr idx masks : List ℕ) (pairs nrows2 ncols2 : �
   not-agreed f =
       sym (ap (λ (b : Bool). cond b Fault.Sound Fault.Disagree) (T_false (sides_agree nrows ncols ptr idx masks pairs nrows2 ncols2 ptr2 idx2 masks2 pairs2) (λ t. f (T_true (sides_agree nrows ncols ptr idx masks pairs nrows2 ncols2 ptr2 idx2 masks2 pairs2) t))))
 
-  pub accepted-topology : ((k : ℕ) → get_or masks k 0 < 2 ^ 64) → ((k : ℕ) → get_or masks2 k 0 < 2 ^ 64) → topology_check nrows ncols ptr idx masks pairs nrows2 ncols2 ptr2 idx2 masks2 pairs2 ≡ Checked.Accepted
+  pub accepted-topology : ((k : ℕ) → get_or masks k 0 < 2 ^ 64) → ((k : ℕ) → get_or masks2 k 0 < 2 ^ 64) → topology_check nrows ncols ptr idx masks pairs nrows2 ncols2 ptr2 idx2 masks2 pairs2 ≡ Ok tt
       → Accepts nrows ncols ptr idx masks pairs nrows2 ncols2 ptr2 idx2 masks2 pairs2
   unfolding topology_check topology_fault
   accepted-topology fits fits2 e =
@@ -200,7 +201,7 @@ module _ (nrows ncols : ℕ) (s : ℕ → ℕ → Bool) (few_rows : nrows ≤ si
         (λ r c h l. side-holds ncols nrows (flip s) (λ c r h t. in_row r c t) c r l ∙ sym (side-holds nrows ncols s (λ r c h t. in-col r c t) r c h));
   }
 
-  pub sides-accepted : topology_check nrows ncols P W M (pair_count nrows ncols s) ncols nrows P2 W2 M2 (pair_count nrows ncols s) ≡ Checked.Accepted
+  pub sides-accepted : topology_check nrows ncols P W M (pair_count nrows ncols s) ncols nrows P2 W2 M2 (pair_count nrows ncols s) ≡ Ok tt
   unfolding topology_check topology_fault first_fault ◌then◌
   sides-accepted =
       rw (
@@ -237,7 +238,7 @@ module _ {A : Type 0} (nrows ncols : ℕ) (ptr idx masks ptr2 idx2 masks2 : List
       ∙ ap (λ (o : RowOf). f (width_of o nrows ncols) (row_set o (side_holds ptr idx masks) k)) (sym e)
 
 -- an accepted row
-pub row-accepted : (check : Checked) (k rows : ℕ) → row_check check k rows ≡ Checked.Accepted → (check ≡ Checked.Accepted) × (k < rows)
+pub row-accepted : (check : Check) (k rows : ℕ) → row_check check k rows ≡ Ok tt → (check ≡ Ok tt) × (k < rows)
 unfolding row_check
 row-accepted check k rows e = let q = both-passed _ _ e in (q.0, ltb-true k rows (passed _ _ q.1))
 

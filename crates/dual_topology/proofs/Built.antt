@@ -1,20 +1,17 @@
--- The columns side by way of the transpose, the scratch that is zero again, what the checks of a building have passed, and that what it leaves is accepted. Assumes nothing.
-use mathlib.Core.Path.{◌≡◌, sym, ap, ap₂, ◌∙◌, subst, fun_ext}
+-- What the checks of a building have passed, and that what it leaves is accepted. Assumes nothing.
+use mathlib.Core.Path.{◌≡◌, sym, ap, ap₂, ◌∙◌, subst}
+use Rattle.std.specs.Prelude.{Ok}
 use mathlib.Core.Bool.{Bool}
-use mathlib.Core.List.{List, ◌++◌}
-use Prim.Native.Nat.{ℕ, ◌+◌, ◌-◌, ◌*◌, ◌≤◌, ◌<◌}
+use mathlib.Core.List.{List}
+use Prim.Native.Nat.{ℕ, ◌+◌, ◌*◌, ◌≤◌, ◌<◌}
 use native.Mathlib.Omega.{arith}
 use borrow.Author.Tests.{ltb-true, leb-true}
 use lib.Ieee.{Float}
-use lib.ListN.{length, take, drop, replicate, length-replicate}
-use lib.Seq.{length-take-le}
-use Rattle.base.specs.Lists.{over, zeroed}
-use Rattle.base.specs.declared.Checked.{Checked}
+use lib.ListN.{length}
 use Rattle.base.proofs.Checks.{both-passed, passed}
 use Rattle.base.proofs.Lists.{length-list_from}
 use Rattle.csr32.specs.Matrix.{stored, IsMatrix}
 use Rattle.csr32.proofs.Matrix.{accepted, stored_row, stored-col, pairs-le}
-use Rattle.transpose.specs.Transpose.{Transposed}
 use Rattle.base.specs.Checks.{entry_limit}
 use Rattle.side.specs.Side.{flip, side_ptr, side_words, side_masks, pair_count, side_holds}
 use Rattle.side.proofs.Sides.{as_many, side-pairs, side-words-le, pairs-flip}
@@ -25,20 +22,7 @@ use Rattle.dual_topology.specs.Answers.{build_room, build_check, counts_of, stat
 use Rattle.dual_topology.specs.declared.TopologyCounts.{TopologyCounts}
 use Rattle.dual_topology.specs.declared.AbtmDualTopologyStats.{AbtmDualTopologyStats}
 
-module _ (nrows ncols : ℕ) (ptr cols starts order starts' order' : List ℕ) (t : Transposed nrows ncols ptr cols starts order starts' order') where
-  pub flipped : stored (take (ncols + 1) starts') (take (length cols) order') ≡ flip (stored ptr cols)
-  flipped = fun_ext (λ c. fun_ext (λ r. t.turned c r))
-
-  pub part-long : length cols ≤ length order → length (take (length cols) order') ≡ length cols
-  part-long h = length-take-le (length cols) order' (omega (arith, t.order_long))
-
--- zeros over the front of what was unchanged past it
-pub zero-again : (n : ℕ) (l l' l'' : List ℕ) → drop n l' ≡ drop n l → l'' ≡ zeroed 0 n l' → l'' ≡ over (replicate n 0) l
-zero-again n l l' l'' d e =
-    let z : n - 0 ≡ n = omega arith in
-    e ∙ ap (λ (k : ℕ). replicate k 0 ++ drop n l') z ∙ ap (λ (x : List ℕ). replicate n 0 ++ x) d ∙ ap (λ (k : ℕ). replicate n 0 ++ drop k l) (sym (length-replicate {A = ℕ} n 0))
-
-pub build-fits : (nrows ncols entries rptr ridx rmasks cptr cidx cmasks starts order : ℕ) → build_room nrows ncols entries rptr ridx rmasks cptr cidx cmasks starts order ≡ Checked.Accepted
+pub build-fits : (nrows ncols entries rptr ridx rmasks cptr cidx cmasks starts order : ℕ) → build_room nrows ncols entries rptr ridx rmasks cptr cidx cmasks starts order ≡ Ok tt
     → (nrows < rptr) × (entries ≤ ridx) × (entries ≤ rmasks) × (ncols < cptr) × (entries ≤ cidx) × (entries ≤ cmasks) × (ncols < starts) × (entries ≤ order)
 build-fits nrows ncols entries rptr ridx rmasks cptr cidx cmasks starts order e =
     let e2 = both-passed _ _ e in
@@ -49,7 +33,7 @@ build-fits nrows ncols entries rptr ridx rmasks cptr cidx cmasks starts order e 
     (r.0, r.1, r.2, c.0, c.1, c.2, ltb-true _ _ (passed _ _ e4.0), leb-true _ _ (passed _ _ e4.1))
 
 pub build-passed : (nrows ncols : ℕ) (ptr cols : List ℕ) (values : List Float) (rptr ridx rmasks cptr cidx cmasks starts order : List ℕ)
-    → build_check nrows ncols ptr cols values rptr ridx rmasks cptr cidx cmasks starts order ≡ Checked.Accepted
+    → build_check nrows ncols ptr cols values rptr ridx rmasks cptr cidx cmasks starts order ≡ Ok tt
     → IsMatrix nrows ncols ptr cols × ((nrows < length rptr) × (length cols ≤ length ridx) × (length cols ≤ length rmasks) × (ncols < length cptr) × (length cols ≤ length cidx) × (length cols ≤ length cmasks) × (ncols < length starts) × (length cols ≤ length order))
 unfolding build_check
 build-passed nrows ncols ptr cols values rptr ridx rmasks cptr cidx cmasks starts order e =
@@ -73,7 +57,7 @@ module _ (nrows ncols : ℕ) (ptr cols : List ℕ) (m : IsMatrix nrows ncols ptr
   pub built-topology : IsTopology nrows ncols (side_ptr nrows ncols s) (side_words nrows ncols s) (side_masks nrows ncols s) (side_ptr ncols nrows (flip s)) (side_words ncols nrows (flip s)) (side_masks ncols nrows (flip s))
   built-topology = sides-are nrows ncols s m.few_rows m.few_cols (stored_row nrows ncols ptr cols m) (stored-col nrows ncols ptr cols m) few_words few-columns few_pairs
 
-  pub built-accepted : topology_check nrows ncols (side_ptr nrows ncols s) (side_words nrows ncols s) (side_masks nrows ncols s) (pair_count nrows ncols s) ncols nrows (side_ptr ncols nrows (flip s)) (side_words ncols nrows (flip s)) (side_masks ncols nrows (flip s)) (pair_count nrows ncols s) ≡ Checked.Accepted
+  pub built-accepted : topology_check nrows ncols (side_ptr nrows ncols s) (side_words nrows ncols s) (side_masks nrows ncols s) (pair_count nrows ncols s) ncols nrows (side_ptr ncols nrows (flip s)) (side_words ncols nrows (flip s)) (side_masks ncols nrows (flip s)) (pair_count nrows ncols s) ≡ Ok tt
   built-accepted = sides-accepted nrows ncols s m.few_rows m.few_cols (stored_row nrows ncols ptr cols m) (stored-col nrows ncols ptr cols m) few_words few-columns few_pairs
 
   -- and of no other

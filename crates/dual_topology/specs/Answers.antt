@@ -1,38 +1,34 @@
 -- What the calls on a topology answer, and what they leave in the lists that they are lent. A topology is the set of pairs that its rows side
 -- holds; row k of its columns is that set turned round.
 use Rattle.std.specs.Prelude.{Bool, ◌&&◌, List, ℕ, ◌+◌, ◌*◌, leb, ltb, Float, length, replicate}
+use Rattle.std.specs.Prelude.{Result, Ok, Option, Some, None}
+use Rattle.base.specs.Checks.{Check, answer}
+use Rattle.base.specs.declared.Refusal.{Refusal}
+use Rattle.base.specs.declared.Refusal.TheVariants.{OutOfRange, ListTooShort}
 use Rattle.base.specs.Checks.{must, ◌then◌, after, leaves}
 use Rattle.base.specs.Lists.{over}
 use Rattle.base.specs.Sets.{count_below, members_below}
-use Rattle.base.specs.declared.Checked.{Checked}
-use Rattle.base.specs.declared.Counted.{Counted}
-use Rattle.base.specs.declared.Truth.{Truth}
 use Rattle.word.specs.Answers.{entry}
-use Rattle.word.specs.declared.Selected.{Selected}
 use Rattle.csr32.specs.Matrix.{matrix_check, stored}
 use Rattle.side.specs.Side.{flip, words_of_row, side_words, pair_count, word_at}
 use Rattle.side.specs.Check.{side_room}
-use Rattle.side.specs.declared.WordAt.{WordAt}
 use Rattle.topology.specs.Statistics.{bytes_of, ratio}
 use Rattle.dual_topology.specs.declared.TopologyCounts.{TopologyCounts}
-use Rattle.dual_topology.specs.declared.TopologyBuilt.{TopologyBuilt}
 use Rattle.dual_topology.specs.declared.AbtmDualTopologyStats.{AbtmDualTopologyStats}
-use Rattle.dual_topology.specs.declared.DualStated.{DualStated}
 use Rattle.dual_topology.specs.declared.RowOf.{RowOf}
-use Rattle.dual_topology.specs.declared.RowColumn.{RowColumn}
-use Rattle.dual_topology.specs.declared.RowWord.{RowWord}
+use Rattle.word.specs.declared.AbtmTopologyWord.{AbtmTopologyWord}
 
 -- ---- from_csr32: the matrix, 25; both sides, the counts, scratch zero
 
 -- 25: what the lists of both sides and the two of scratch need, against the lengths that they have
-abbrev pub build_room : ℕ → ℕ → ℕ → ℕ → ℕ → ℕ → ℕ → ℕ → ℕ → ℕ → ℕ → Checked
+abbrev pub build_room : ℕ → ℕ → ℕ → ℕ → ℕ → ℕ → ℕ → ℕ → ℕ → ℕ → ℕ → Check
 build_room nrows ncols entries rptr ridx rmasks cptr cidx cmasks starts order =
     side_room nrows entries rptr ridx rmasks
     then side_room ncols entries cptr cidx cmasks
-    then must (ltb ncols starts) 25
-    then must (leb entries order) 25
+    then must (ltb ncols starts) ListTooShort
+    then must (leb entries order) ListTooShort
 
-unfoldable pub build_check : ℕ → ℕ → List ℕ → List ℕ → List Float → List ℕ → List ℕ → List ℕ → List ℕ → List ℕ → List ℕ → List ℕ → List ℕ → Checked
+unfoldable pub build_check : ℕ → ℕ → List ℕ → List ℕ → List Float → List ℕ → List ℕ → List ℕ → List ℕ → List ℕ → List ℕ → List ℕ → List ℕ → Check
 build_check nrows ncols ptr cols values rptr ridx rmasks cptr cidx cmasks starts order =
     matrix_check nrows ncols ptr cols values
     then build_room nrows ncols (length cols) (length rptr) (length ridx) (length rmasks) (length cptr) (length cidx) (length cmasks) (length starts) (length order)
@@ -41,11 +37,11 @@ abbrev pub counts_of : ℕ → ℕ → (ℕ → ℕ → Bool) → TopologyCounts
 counts_of nrows ncols s =
     record { row_words = length (side_words nrows ncols s); column_words = length (side_words ncols nrows (flip s)); pairs = pair_count nrows ncols s }
 
-abbrev pub build_answer : Checked → ℕ → ℕ → List ℕ → List ℕ → TopologyBuilt
-build_answer check nrows ncols ptr cols = after check (TopologyBuilt.Built (counts_of nrows ncols (stored ptr cols))) TopologyBuilt.Refused
+abbrev pub build_answer : Check → ℕ → ℕ → List ℕ → List ℕ → Result TopologyCounts Refusal
+build_answer check nrows ncols ptr cols = answer check (counts_of nrows ncols (stored ptr cols))
 
 -- the needed part of a scratch list is zero
-abbrev pub scratch : Checked → ℕ → List ℕ → List ℕ
+abbrev pub scratch : Check → ℕ → List ℕ → List ℕ
 scratch check needed out = leaves check (over (replicate needed 0) out) out
 
 -- ---- stats: the topology; bytes of both sides
@@ -65,8 +61,8 @@ counted_stats nrows ncols counts =
       column_metadata_bytes = 4 * (ncols + 1) + 4 * counts.column_words + 8 * counts.column_words;
     }
 
-abbrev pub stats_answer : Checked → AbtmDualTopologyStats → DualStated
-stats_answer check stats = after check (DualStated.Stats stats) DualStated.Refused
+abbrev pub stats_answer : Check → AbtmDualTopologyStats → Result AbtmDualTopologyStats Refusal
+stats_answer check stats = answer check stats
 
 abbrev pub total_bytes : AbtmDualTopologyStats → ℕ
 total_bytes s = s.row_metadata_bytes + s.column_metadata_bytes
@@ -91,34 +87,26 @@ row_set RowOf.Rows s k = s k
 row_set RowOf.Columns s k = flip s k
 
 -- the topology, then 13
-unfoldable pub row_check : Checked → ℕ → ℕ → Checked
-row_check topology k rows = topology then must (ltb k rows) 13
+unfoldable pub row_check : Check → ℕ → ℕ → Check
+row_check topology k rows = topology then must (ltb k rows) OutOfRange
 
-abbrev pub row_words_answer : Checked → ℕ → (ℕ → Bool) → Counted
-row_words_answer check width set = after check (Counted.Count (length (words_of_row width set))) Counted.Refused
+abbrev pub row_words_answer : Check → ℕ → (ℕ → Bool) → Result ℕ Refusal
+row_words_answer check width set = answer check (length (words_of_row width set))
 
-abbrev pub row_popcount_answer : Checked → ℕ → (ℕ → Bool) → Counted
-row_popcount_answer check width set = after check (Counted.Count (count_below width set)) Counted.Refused
+abbrev pub row_popcount_answer : Check → ℕ → (ℕ → Bool) → Result ℕ Refusal
+row_popcount_answer check width set = answer check (count_below width set)
 
 -- past the end: no
-abbrev pub row_contains_answer : Checked → ℕ → (ℕ → Bool) → ℕ → Truth
-row_contains_answer check width set col = after check (Truth.Is (ltb col width && set col)) Truth.Refused
+abbrev pub row_contains_answer : Check → ℕ → (ℕ → Bool) → ℕ → Result Bool Refusal
+row_contains_answer check width set col = answer check (ltb col width && set col)
 
 -- past the end: 13
-abbrev pub row_rank_answer : Checked → ℕ → (ℕ → Bool) → ℕ → Counted
-row_rank_answer check width set col = after (check then must (leb col width) 13) (Counted.Count (count_below col set)) Counted.Refused
+abbrev pub row_rank_answer : Check → ℕ → (ℕ → Bool) → ℕ → Result ℕ Refusal
+row_rank_answer check width set col = answer (check then must (leb col width) OutOfRange) (count_below col set)
 
 -- past the last: none
-abbrev pub column_answer_of : Selected → RowColumn
-column_answer_of (Selected.At c) = RowColumn.At c
-column_answer_of Selected.Nothing = RowColumn.Nothing
+abbrev pub row_select_answer : Check → ℕ → (ℕ → Bool) → ℕ → Result (Option ℕ) Refusal
+row_select_answer check width set ordinal = answer check (entry (members_below width set) ordinal)
 
-abbrev pub row_select_answer : Checked → ℕ → (ℕ → Bool) → ℕ → RowColumn
-row_select_answer check width set ordinal = after check (column_answer_of (entry (members_below width set) ordinal)) RowColumn.Refused
-
-abbrev pub word_answer_of : WordAt → RowWord
-word_answer_of (WordAt.Word w) = RowWord.Word w
-word_answer_of WordAt.Nothing = RowWord.Nothing
-
-abbrev pub row_word_answer : Checked → ℕ → (ℕ → Bool) → ℕ → RowWord
-row_word_answer check width set k = after check (word_answer_of (word_at width set k)) RowWord.Refused
+abbrev pub row_word_answer : Check → ℕ → (ℕ → Bool) → ℕ → Result (Option AbtmTopologyWord) Refusal
+row_word_answer check width set k = answer check (word_at width set k)

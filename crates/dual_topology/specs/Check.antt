@@ -1,8 +1,8 @@
 -- The check of a topology: refusal 1 for each side, then 9. The faults come in the order rows, columns, agreement. Each side comes with its
 -- own sizes and pair count, so that two can disagree.
 use Rattle.std.specs.Prelude.{◌≡◌, Bool, true, cond, ◌&&◌, List, ℕ, eqb}
+use Rattle.base.specs.Checks.{Check}
 use Rattle.base.specs.Checks.{◌then◌}
-use Rattle.base.specs.declared.Checked.{Checked}
 use Rattle.side.specs.Side.{side_holds}
 use Rattle.side.specs.Check.{limit_check, fault_check, side_fault, IsSide}
 use Rattle.side.specs.declared.Fault.{Fault}
@@ -27,7 +27,7 @@ topology_fault nrows ncols ptr idx masks pairs nrows2 ncols2 ptr2 idx2 masks2 pa
     (cond (sides_agree nrows ncols ptr idx masks pairs nrows2 ncols2 ptr2 idx2 masks2 pairs2) Fault.Sound Fault.Disagree))
 
 -- a topology: 1, 9
-unfoldable pub topology_check : ℕ → ℕ → List ℕ → List ℕ → List ℕ → ℕ → ℕ → ℕ → List ℕ → List ℕ → List ℕ → ℕ → Checked
+unfoldable pub topology_check : ℕ → ℕ → List ℕ → List ℕ → List ℕ → ℕ → ℕ → ℕ → List ℕ → List ℕ → List ℕ → ℕ → Check
 topology_check nrows ncols ptr idx masks pairs nrows2 ncols2 ptr2 idx2 masks2 pairs2 =
     limit_check nrows ncols idx masks pairs
     then limit_check nrows2 ncols2 idx2 masks2 pairs2

@@ -9,7 +9,7 @@ ghost use Rattle.dual_topology.specs.Check.{sides_agree, topology_fault};
 ghost use Rattle.dual_topology.specs.Answers.{build_room, counts_of, counted_stats};
 
 use crate::{AbtmDualTopologyStats, TopologyCounts};
-use base::Checked;
+use base::Refusal;
 use side::{Fault, SideCounts};
 
 // Whether two sides without fault are each other's transpose.
@@ -125,30 +125,18 @@ pub fn check_room(
     column_masks: usize,
     starts: usize,
     order: usize,
-) -> Checked
+) -> Result<(), Refusal>
     ensures { result ≡ build_room nrows ncols entries row_pointers row_words row_masks column_pointers column_words column_masks starts order }
 {
-    match side::inner::check_room(nrows, entries, row_pointers, row_words, row_masks) {
-        Checked::Refused(r) => Checked::Refused(r),
-        Checked::Accepted => match side::inner::check_room(
-            ncols,
-            entries,
-            column_pointers,
-            column_words,
-            column_masks,
-        ) {
-            Checked::Refused(r) => Checked::Refused(r),
-            Checked::Accepted => {
-                if ncols >= starts {
-                    return base::refused(25);
-                }
-                if entries > order {
-                    return base::refused(25);
-                }
-                Checked::Accepted
-            }
-        },
+    side::inner::check_room(nrows, entries, row_pointers, row_words, row_masks)?;
+    side::inner::check_room(ncols, entries, column_pointers, column_words, column_masks)?;
+    if ncols >= starts {
+        return Err(Refusal::ListTooShort);
     }
+    if entries > order {
+        return Err(Refusal::ListTooShort);
+    }
+    Ok(())
 }
 
 // The columns side of a checked matrix: its transpose, and the side of that. The scratch is zero at the end.
@@ -183,8 +171,8 @@ fn build_columns(
         column_word_indices,
         column_masks,
     );
-    base::inner::zero(starts, 0, pointers);
-    base::inner::zero(order, 0, entries);
+    starts[..pointers].fill(0);
+    order[..entries].fill(0);
     columns
 }
 

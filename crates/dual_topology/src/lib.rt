@@ -7,11 +7,10 @@ ghost use Rattle.csr32.specs.Matrix.{stored};
 ghost use Rattle.side.specs.Side.{flip, side_holds};
 ghost use Rattle.side.specs.Built.{built_ptr, built_words, built_masks};
 ghost use Rattle.dual_topology.specs.Check.{topology_check};
-ghost use Rattle.dual_topology.specs.Answers.{build_check, build_answer, scratch, stats_of, stats_answer, total_bytes, bytes_per_nnz, rows_of, width_of, row_set, row_check, row_words_answer, row_popcount_answer, row_contains_answer, row_rank_answer, column_answer_of, row_select_answer, word_answer_of, row_word_answer};
+ghost use Rattle.dual_topology.specs.Answers.{build_check, build_answer, scratch, stats_of, stats_answer, total_bytes, bytes_per_nnz, rows_of, width_of, row_set, row_check, row_words_answer, row_popcount_answer, row_contains_answer, row_rank_answer, row_select_answer, row_word_answer};
 
-use base::{Checked, Counted, Refusal, Truth};
-use side::WordAt;
-use word::{AbtmTopologyWord, Selected};
+use base::Refusal;
+use word::AbtmTopologyWord;
 
 pub mod inner;
 
@@ -21,12 +20,6 @@ pub struct TopologyCounts {
     pub row_words: u64,
     pub column_words: u64,
     pub pairs: u64,
-}
-
-#[derive(Clone, Copy)]
-pub enum TopologyBuilt {
-    Built(TopologyCounts),
-    Refused(Refusal),
 }
 
 // 32 bits hold each of these of an accepted topology, so that the ratio asks nothing of its caller.
@@ -39,31 +32,11 @@ pub struct AbtmDualTopologyStats {
     pub column_metadata_bytes: u32,
 }
 
-#[derive(Clone, Copy)]
-pub enum DualStated {
-    Stats(AbtmDualTopologyStats),
-    Refused(Refusal),
-}
-
 // The side that a row belongs to.
 #[derive(Clone, Copy)]
 pub enum RowOf {
     Rows,
     Columns,
-}
-
-#[derive(Clone, Copy)]
-pub enum RowColumn {
-    At(u64),
-    Nothing,
-    Refused(Refusal),
-}
-
-#[derive(Clone, Copy)]
-pub enum RowWord {
-    Word(AbtmTopologyWord),
-    Nothing,
-    Refused(Refusal),
 }
 
 impl AbtmDualTopologyStats {
@@ -99,25 +72,23 @@ fn check_build(
     column_masks: &[u64],
     starts: &[u32],
     order: &[u32],
-) -> Checked
+) -> Result<(), Refusal>
     ensures { result ≡ build_check nrows ncols row_ptr.now col_idx.now values.now row_word_ptr.now row_word_indices.now row_masks.now column_word_ptr.now column_word_indices.now column_masks.now starts.now order.now }
 {
-    match csr32::validate(nrows, ncols, row_ptr, col_idx, values) {
-        Checked::Refused(r) => Checked::Refused(r),
-        Checked::Accepted => inner::check_room(
-            nrows,
-            ncols,
-            col_idx.len(),
-            row_word_ptr.len(),
-            row_word_indices.len(),
-            row_masks.len(),
-            column_word_ptr.len(),
-            column_word_indices.len(),
-            column_masks.len(),
-            starts.len(),
-            order.len(),
-        ),
-    }
+    csr32::validate(nrows, ncols, row_ptr, col_idx, values)?;
+    inner::check_room(
+        nrows,
+        ncols,
+        col_idx.len(),
+        row_word_ptr.len(),
+        row_word_indices.len(),
+        row_masks.len(),
+        column_word_ptr.len(),
+        column_word_indices.len(),
+        column_masks.len(),
+        starts.len(),
+        order.len(),
+    )
 }
 
 // `starts` and `order` are scratch: a number for each column and one, and one for each entry.
@@ -135,7 +106,7 @@ pub fn from_csr32(
     column_masks: &mut [u64],
     starts: &mut [u32],
     order: &mut [u32],
-) -> TopologyBuilt
+) -> Result<TopologyCounts, Refusal>
     ensures value { result ≡ build_answer (build_check nrows ncols row_ptr.now col_idx.now values.now row_word_ptr.old row_word_indices.old row_masks.old column_word_ptr.old column_word_indices.old column_masks.old starts.old order.old) nrows ncols row_ptr.now col_idx.now }
     ensures row_pointers { row_word_ptr.new ≡ built_ptr (build_check nrows ncols row_ptr.now col_idx.now values.now row_word_ptr.old row_word_indices.old row_masks.old column_word_ptr.old column_word_indices.old column_masks.old starts.old order.old) nrows ncols (stored row_ptr.now col_idx.now) row_word_ptr.old }
     ensures row_words { row_word_indices.new ≡ built_words (build_check nrows ncols row_ptr.now col_idx.now values.now row_word_ptr.old row_word_indices.old row_masks.old column_word_ptr.old column_word_indices.old column_masks.old starts.old order.old) nrows ncols (stored row_ptr.now col_idx.now) (length col_idx.now) row_word_indices.old }
@@ -146,7 +117,7 @@ pub fn from_csr32(
     ensures scratch_starts { starts.new ≡ scratch (build_check nrows ncols row_ptr.now col_idx.now values.now row_word_ptr.old row_word_indices.old row_masks.old column_word_ptr.old column_word_indices.old column_masks.old starts.old order.old) (ncols + 1) starts.old }
     ensures scratch_order { order.new ≡ scratch (build_check nrows ncols row_ptr.now col_idx.now values.now row_word_ptr.old row_word_indices.old row_masks.old column_word_ptr.old column_word_indices.old column_masks.old starts.old order.old) (length col_idx.now) order.old }
 {
-    match check_build(
+    check_build(
         nrows,
         ncols,
         row_ptr,
@@ -160,23 +131,21 @@ pub fn from_csr32(
         column_masks,
         starts,
         order,
-    ) {
-        Checked::Refused(r) => TopologyBuilt::Refused(r),
-        Checked::Accepted => TopologyBuilt::Built(inner::build(
-            nrows,
-            ncols,
-            row_ptr,
-            col_idx,
-            row_word_ptr,
-            row_word_indices,
-            row_masks,
-            column_word_ptr,
-            column_word_indices,
-            column_masks,
-            starts,
-            order,
-        )),
-    }
+    )?;
+    Ok(inner::build(
+        nrows,
+        ncols,
+        row_ptr,
+        col_idx,
+        row_word_ptr,
+        row_word_indices,
+        row_masks,
+        column_word_ptr,
+        column_word_indices,
+        column_masks,
+        starts,
+        order,
+    ))
 }
 
 pub fn validate(
@@ -192,38 +161,32 @@ pub fn validate(
     column_word_indices: &[u32],
     column_masks: &[u64],
     column_structural_nnz: usize,
-) -> Checked
+) -> Result<(), Refusal>
     ensures { result ≡ topology_check nrows ncols row_word_ptr.now row_word_indices.now row_masks.now structural_nnz column_nrows column_ncols column_word_ptr.now column_word_indices.now column_masks.now column_structural_nnz }
 {
-    match side::inner::check_limits(nrows, ncols, row_word_indices, row_masks, structural_nnz) {
-        Checked::Refused(r) => Checked::Refused(r),
-        Checked::Accepted => match side::inner::check_limits(
-            column_nrows,
-            column_ncols,
-            column_word_indices,
-            column_masks,
-            column_structural_nnz,
-        ) {
-            Checked::Refused(r) => Checked::Refused(r),
-            Checked::Accepted => {
-                let fault = inner::fault(
-                    nrows,
-                    ncols,
-                    row_word_ptr,
-                    row_word_indices,
-                    row_masks,
-                    structural_nnz,
-                    column_nrows,
-                    column_ncols,
-                    column_word_ptr,
-                    column_word_indices,
-                    column_masks,
-                    column_structural_nnz,
-                );
-                fault.check()
-            }
-        },
-    }
+    side::inner::check_limits(nrows, ncols, row_word_indices, row_masks, structural_nnz)?;
+    side::inner::check_limits(
+        column_nrows,
+        column_ncols,
+        column_word_indices,
+        column_masks,
+        column_structural_nnz,
+    )?;
+    let fault = inner::fault(
+        nrows,
+        ncols,
+        row_word_ptr,
+        row_word_indices,
+        row_masks,
+        structural_nnz,
+        column_nrows,
+        column_ncols,
+        column_word_ptr,
+        column_word_indices,
+        column_masks,
+        column_structural_nnz,
+    );
+    fault.check()
 }
 
 pub fn stats(
@@ -239,10 +202,10 @@ pub fn stats(
     column_word_indices: &[u32],
     column_masks: &[u64],
     column_structural_nnz: usize,
-) -> DualStated
+) -> Result<AbtmDualTopologyStats, Refusal>
     ensures { result ≡ stats_answer (topology_check nrows ncols row_word_ptr.now row_word_indices.now row_masks.now structural_nnz column_nrows column_ncols column_word_ptr.now column_word_indices.now column_masks.now column_structural_nnz) (stats_of nrows ncols row_word_ptr.now row_word_indices.now row_masks.now structural_nnz column_word_ptr.now column_word_indices.now column_masks.now) }
 {
-    match validate(
+    validate(
         nrows,
         ncols,
         row_word_ptr,
@@ -255,20 +218,18 @@ pub fn stats(
         column_word_indices,
         column_masks,
         column_structural_nnz,
-    ) {
-        Checked::Refused(r) => DualStated::Refused(r),
-        Checked::Accepted => DualStated::Stats(AbtmDualTopologyStats {
-            nrows: nrows as u32,
-            ncols: ncols as u32,
-            structural_nnz: structural_nnz as u32,
-            row_metadata_bytes: (4 * row_word_ptr.len()
-                + 4 * row_word_indices.len()
-                + 8 * row_masks.len()) as u32,
-            column_metadata_bytes: (4 * column_word_ptr.len()
-                + 4 * column_word_indices.len()
-                + 8 * column_masks.len()) as u32,
-        }),
-    }
+    )?;
+    Ok(AbtmDualTopologyStats {
+        nrows: nrows as u32,
+        ncols: ncols as u32,
+        structural_nnz: structural_nnz as u32,
+        row_metadata_bytes: (4 * row_word_ptr.len()
+            + 4 * row_word_indices.len()
+            + 8 * row_masks.len()) as u32,
+        column_metadata_bytes: (4 * column_word_ptr.len()
+            + 4 * column_word_indices.len()
+            + 8 * column_masks.len()) as u32,
+    })
 }
 
 fn rows_of(of: RowOf, nrows: usize, ncols: usize) -> usize
@@ -305,10 +266,10 @@ fn check_row(
     column_structural_nnz: usize,
     of: RowOf,
     number: u64,
-) -> Checked
+) -> Result<(), Refusal>
     ensures { result ≡ row_check (topology_check nrows ncols row_word_ptr.now row_word_indices.now row_masks.now structural_nnz column_nrows column_ncols column_word_ptr.now column_word_indices.now column_masks.now column_structural_nnz) number (rows_of of nrows ncols) }
 {
-    match validate(
+    validate(
         nrows,
         ncols,
         row_word_ptr,
@@ -321,33 +282,11 @@ fn check_row(
         column_word_indices,
         column_masks,
         column_structural_nnz,
-    ) {
-        Checked::Refused(r) => Checked::Refused(r),
-        Checked::Accepted => {
-            if number >= rows_of(of, nrows, ncols) as u64 {
-                return base::refused(13);
-            }
-            Checked::Accepted
-        }
+    )?;
+    if number >= rows_of(of, nrows, ncols) as u64 {
+        return Err(Refusal::OutOfRange);
     }
-}
-
-fn column_or(s: Selected) -> RowColumn
-    ensures { result ≡ column_answer_of s }
-{
-    match s {
-        Selected::At(c) => RowColumn::At(c as u64),
-        Selected::Nothing => RowColumn::Nothing,
-    }
-}
-
-fn word_or(w: WordAt) -> RowWord
-    ensures { result ≡ word_answer_of w }
-{
-    match w {
-        WordAt::Word(x) => RowWord::Word(x),
-        WordAt::Nothing => RowWord::Nothing,
-    }
+    Ok(())
 }
 
 // How many stored words the row has.
@@ -366,10 +305,10 @@ pub fn row_words(
     column_structural_nnz: usize,
     of: RowOf,
     number: u64,
-) -> Counted
+) -> Result<u64, Refusal>
     ensures { result ≡ row_words_answer (row_check (topology_check nrows ncols row_word_ptr.now row_word_indices.now row_masks.now structural_nnz column_nrows column_ncols column_word_ptr.now column_word_indices.now column_masks.now column_structural_nnz) number (rows_of of nrows ncols)) (width_of of nrows ncols) (row_set of (side_holds row_word_ptr.now row_word_indices.now row_masks.now) number) }
 {
-    match check_row(
+    check_row(
         nrows,
         ncols,
         row_word_ptr,
@@ -384,32 +323,30 @@ pub fn row_words(
         column_structural_nnz,
         of,
         number,
-    ) {
-        Checked::Refused(r) => Counted::Refused(r),
-        Checked::Accepted => match of {
-            RowOf::Rows => {
-                let x = side::inner::row_words(
-                    nrows,
-                    ncols,
-                    row_word_ptr,
-                    row_word_indices,
-                    row_masks,
-                    number as usize,
-                );
-                Counted::Count(x)
-            }
-            RowOf::Columns => {
-                let x = side::inner::row_words(
-                    ncols,
-                    nrows,
-                    column_word_ptr,
-                    column_word_indices,
-                    column_masks,
-                    number as usize,
-                );
-                Counted::Count(x)
-            }
-        },
+    )?;
+    match of {
+        RowOf::Rows => {
+            let x = side::inner::row_words(
+                nrows,
+                ncols,
+                row_word_ptr,
+                row_word_indices,
+                row_masks,
+                number as usize,
+            );
+            Ok(x)
+        }
+        RowOf::Columns => {
+            let x = side::inner::row_words(
+                ncols,
+                nrows,
+                column_word_ptr,
+                column_word_indices,
+                column_masks,
+                number as usize,
+            );
+            Ok(x)
+        }
     }
 }
 
@@ -429,10 +366,10 @@ pub fn row_popcount(
     column_structural_nnz: usize,
     of: RowOf,
     number: u64,
-) -> Counted
+) -> Result<u64, Refusal>
     ensures { result ≡ row_popcount_answer (row_check (topology_check nrows ncols row_word_ptr.now row_word_indices.now row_masks.now structural_nnz column_nrows column_ncols column_word_ptr.now column_word_indices.now column_masks.now column_structural_nnz) number (rows_of of nrows ncols)) (width_of of nrows ncols) (row_set of (side_holds row_word_ptr.now row_word_indices.now row_masks.now) number) }
 {
-    match check_row(
+    check_row(
         nrows,
         ncols,
         row_word_ptr,
@@ -447,32 +384,30 @@ pub fn row_popcount(
         column_structural_nnz,
         of,
         number,
-    ) {
-        Checked::Refused(r) => Counted::Refused(r),
-        Checked::Accepted => match of {
-            RowOf::Rows => {
-                let x = side::inner::row_popcount(
-                    nrows,
-                    ncols,
-                    row_word_ptr,
-                    row_word_indices,
-                    row_masks,
-                    number as usize,
-                );
-                Counted::Count(x)
-            }
-            RowOf::Columns => {
-                let x = side::inner::row_popcount(
-                    ncols,
-                    nrows,
-                    column_word_ptr,
-                    column_word_indices,
-                    column_masks,
-                    number as usize,
-                );
-                Counted::Count(x)
-            }
-        },
+    )?;
+    match of {
+        RowOf::Rows => {
+            let x = side::inner::row_popcount(
+                nrows,
+                ncols,
+                row_word_ptr,
+                row_word_indices,
+                row_masks,
+                number as usize,
+            );
+            Ok(x)
+        }
+        RowOf::Columns => {
+            let x = side::inner::row_popcount(
+                ncols,
+                nrows,
+                column_word_ptr,
+                column_word_indices,
+                column_masks,
+                number as usize,
+            );
+            Ok(x)
+        }
     }
 }
 
@@ -493,10 +428,10 @@ pub fn row_contains(
     of: RowOf,
     number: u64,
     col: u64,
-) -> Truth
+) -> Result<bool, Refusal>
     ensures { result ≡ row_contains_answer (row_check (topology_check nrows ncols row_word_ptr.now row_word_indices.now row_masks.now structural_nnz column_nrows column_ncols column_word_ptr.now column_word_indices.now column_masks.now column_structural_nnz) number (rows_of of nrows ncols)) (width_of of nrows ncols) (row_set of (side_holds row_word_ptr.now row_word_indices.now row_masks.now) number) col }
 {
-    match check_row(
+    check_row(
         nrows,
         ncols,
         row_word_ptr,
@@ -511,34 +446,32 @@ pub fn row_contains(
         column_structural_nnz,
         of,
         number,
-    ) {
-        Checked::Refused(r) => Truth::Refused(r),
-        Checked::Accepted => match of {
-            RowOf::Rows => {
-                let x = side::inner::row_contains(
-                    nrows,
-                    ncols,
-                    row_word_ptr,
-                    row_word_indices,
-                    row_masks,
-                    number as usize,
-                    col,
-                );
-                Truth::Is(x)
-            }
-            RowOf::Columns => {
-                let x = side::inner::row_contains(
-                    ncols,
-                    nrows,
-                    column_word_ptr,
-                    column_word_indices,
-                    column_masks,
-                    number as usize,
-                    col,
-                );
-                Truth::Is(x)
-            }
-        },
+    )?;
+    match of {
+        RowOf::Rows => {
+            let x = side::inner::row_contains(
+                nrows,
+                ncols,
+                row_word_ptr,
+                row_word_indices,
+                row_masks,
+                number as usize,
+                col,
+            );
+            Ok(x)
+        }
+        RowOf::Columns => {
+            let x = side::inner::row_contains(
+                ncols,
+                nrows,
+                column_word_ptr,
+                column_word_indices,
+                column_masks,
+                number as usize,
+                col,
+            );
+            Ok(x)
+        }
     }
 }
 
@@ -559,10 +492,10 @@ pub fn row_rank(
     of: RowOf,
     number: u64,
     col: u64,
-) -> Counted
+) -> Result<u64, Refusal>
     ensures { result ≡ row_rank_answer (row_check (topology_check nrows ncols row_word_ptr.now row_word_indices.now row_masks.now structural_nnz column_nrows column_ncols column_word_ptr.now column_word_indices.now column_masks.now column_structural_nnz) number (rows_of of nrows ncols)) (width_of of nrows ncols) (row_set of (side_holds row_word_ptr.now row_word_indices.now row_masks.now) number) col }
 {
-    match check_row(
+    check_row(
         nrows,
         ncols,
         row_word_ptr,
@@ -577,38 +510,34 @@ pub fn row_rank(
         column_structural_nnz,
         of,
         number,
-    ) {
-        Checked::Refused(r) => Counted::Refused(r),
-        Checked::Accepted => {
-            if col > width_of(of, nrows, ncols) as u64 {
-                return Counted::Refused(Refusal::plain(13));
-            }
-            match of {
-                RowOf::Rows => {
-                    let x = side::inner::row_rank(
-                        nrows,
-                        ncols,
-                        row_word_ptr,
-                        row_word_indices,
-                        row_masks,
-                        number as usize,
-                        col as usize,
-                    );
-                    Counted::Count(x)
-                }
-                RowOf::Columns => {
-                    let x = side::inner::row_rank(
-                        ncols,
-                        nrows,
-                        column_word_ptr,
-                        column_word_indices,
-                        column_masks,
-                        number as usize,
-                        col as usize,
-                    );
-                    Counted::Count(x)
-                }
-            }
+    )?;
+    if col > width_of(of, nrows, ncols) as u64 {
+        return Err(Refusal::OutOfRange);
+    }
+    match of {
+        RowOf::Rows => {
+            let x = side::inner::row_rank(
+                nrows,
+                ncols,
+                row_word_ptr,
+                row_word_indices,
+                row_masks,
+                number as usize,
+                col as usize,
+            );
+            Ok(x)
+        }
+        RowOf::Columns => {
+            let x = side::inner::row_rank(
+                ncols,
+                nrows,
+                column_word_ptr,
+                column_word_indices,
+                column_masks,
+                number as usize,
+                col as usize,
+            );
+            Ok(x)
         }
     }
 }
@@ -630,10 +559,10 @@ pub fn row_select(
     of: RowOf,
     number: u64,
     ordinal: u64,
-) -> RowColumn
+) -> Result<Option<usize>, Refusal>
     ensures { result ≡ row_select_answer (row_check (topology_check nrows ncols row_word_ptr.now row_word_indices.now row_masks.now structural_nnz column_nrows column_ncols column_word_ptr.now column_word_indices.now column_masks.now column_structural_nnz) number (rows_of of nrows ncols)) (width_of of nrows ncols) (row_set of (side_holds row_word_ptr.now row_word_indices.now row_masks.now) number) ordinal }
 {
-    match check_row(
+    check_row(
         nrows,
         ncols,
         row_word_ptr,
@@ -648,34 +577,32 @@ pub fn row_select(
         column_structural_nnz,
         of,
         number,
-    ) {
-        Checked::Refused(r) => RowColumn::Refused(r),
-        Checked::Accepted => match of {
-            RowOf::Rows => {
-                let x = side::inner::row_select(
-                    nrows,
-                    ncols,
-                    row_word_ptr,
-                    row_word_indices,
-                    row_masks,
-                    number as usize,
-                    ordinal,
-                );
-                column_or(x)
-            }
-            RowOf::Columns => {
-                let x = side::inner::row_select(
-                    ncols,
-                    nrows,
-                    column_word_ptr,
-                    column_word_indices,
-                    column_masks,
-                    number as usize,
-                    ordinal,
-                );
-                column_or(x)
-            }
-        },
+    )?;
+    match of {
+        RowOf::Rows => {
+            let x = side::inner::row_select(
+                nrows,
+                ncols,
+                row_word_ptr,
+                row_word_indices,
+                row_masks,
+                number as usize,
+                ordinal,
+            );
+            Ok(x)
+        }
+        RowOf::Columns => {
+            let x = side::inner::row_select(
+                ncols,
+                nrows,
+                column_word_ptr,
+                column_word_indices,
+                column_masks,
+                number as usize,
+                ordinal,
+            );
+            Ok(x)
+        }
     }
 }
 
@@ -696,10 +623,10 @@ pub fn row_word(
     of: RowOf,
     number: u64,
     k: u64,
-) -> RowWord
+) -> Result<Option<AbtmTopologyWord>, Refusal>
     ensures { result ≡ row_word_answer (row_check (topology_check nrows ncols row_word_ptr.now row_word_indices.now row_masks.now structural_nnz column_nrows column_ncols column_word_ptr.now column_word_indices.now column_masks.now column_structural_nnz) number (rows_of of nrows ncols)) (width_of of nrows ncols) (row_set of (side_holds row_word_ptr.now row_word_indices.now row_masks.now) number) k }
 {
-    match check_row(
+    check_row(
         nrows,
         ncols,
         row_word_ptr,
@@ -714,33 +641,31 @@ pub fn row_word(
         column_structural_nnz,
         of,
         number,
-    ) {
-        Checked::Refused(r) => RowWord::Refused(r),
-        Checked::Accepted => match of {
-            RowOf::Rows => {
-                let x = side::inner::row_word(
-                    nrows,
-                    ncols,
-                    row_word_ptr,
-                    row_word_indices,
-                    row_masks,
-                    number as usize,
-                    k,
-                );
-                word_or(x)
-            }
-            RowOf::Columns => {
-                let x = side::inner::row_word(
-                    ncols,
-                    nrows,
-                    column_word_ptr,
-                    column_word_indices,
-                    column_masks,
-                    number as usize,
-                    k,
-                );
-                word_or(x)
-            }
-        },
+    )?;
+    match of {
+        RowOf::Rows => {
+            let x = side::inner::row_word(
+                nrows,
+                ncols,
+                row_word_ptr,
+                row_word_indices,
+                row_masks,
+                number as usize,
+                k,
+            );
+            Ok(x)
+        }
+        RowOf::Columns => {
+            let x = side::inner::row_word(
+                ncols,
+                nrows,
+                column_word_ptr,
+                column_word_indices,
+                column_masks,
+                number as usize,
+                k,
+            );
+            Ok(x)
+        }
     }
 }

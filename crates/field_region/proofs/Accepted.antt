@@ -1,12 +1,12 @@
 -- What acceptance gives a field growth, and its statistics put together. Assumes nothing.
 use mathlib.Core.Path.{◌≡◌, ap, ap₂, ◌∙◌, subst}
+use Rattle.std.specs.Prelude.{Ok}
 use mathlib.Core.List.{List}
 use Prim.Native.Nat.{ℕ, ◌^◌, ◌≤◌, ◌<◌}
 use borrow.Author.Tests.{eqb-true}
 use lib.Dec.{eqb}
 use lib.ListN.{length, get_or}
 use Rattle.base.specs.Sets.{count_below}
-use Rattle.base.specs.declared.Checked.{Checked}
 use Rattle.base.proofs.Bools.{and_left, and_right}
 use Rattle.base.proofs.Checks.{both-passed, passed}
 use Rattle.mask.specs.Mask.{in_mask, words_needed, IsMask}
@@ -23,7 +23,7 @@ use Rattle.field_region.specs.declared.BlocksGrown.{BlocksGrown}
 use Rattle.field_region.specs.declared.FieldAwareRegionStats.{FieldAwareRegionStats}
 
 -- the layout's total is both sides
-pub accepted-square : (kinds ids fields components offsets : List ℕ) (nrows ncols : ℕ) → square_check kinds ids fields components offsets nrows ncols ≡ Checked.Accepted
+pub accepted-square : (kinds ids fields components offsets : List ℕ) (nrows ncols : ℕ) → square_check kinds ids fields components offsets nrows ncols ≡ Ok tt
     → IsLayout kinds ids fields components offsets × (nrows ≡ total_of components) × (ncols ≡ total_of components)
 unfolding square_check
 accepted-square kinds ids fields components offsets nrows ncols e =
@@ -42,7 +42,7 @@ pub record Accepts (nrows : ℕ) (kinds ids fields components offsets ptr idx ma
 
 pub accepted-growth : (nrows ncols : ℕ) (ptr idx masks : List ℕ) (pairs nrows2 ncols2 : ℕ) (ptr2 idx2 masks2 : List ℕ) (pairs2 : ℕ) (kinds ids fields components offsets : List ℕ) (len : ℕ) (seeds region frontier scratch : List ℕ)
     → ((k : ℕ) → get_or masks k 0 < 2 ^ 64) → ((k : ℕ) → get_or masks2 k 0 < 2 ^ 64) → ((k : ℕ) → get_or seeds k 0 < 2 ^ 64)
-    → field_grow_check (topology_check nrows ncols ptr idx masks pairs nrows2 ncols2 ptr2 idx2 masks2 pairs2) (square_check kinds ids fields components offsets nrows ncols) (total_of components) len seeds region frontier scratch ≡ Checked.Accepted
+    → field_grow_check (topology_check nrows ncols ptr idx masks pairs nrows2 ncols2 ptr2 idx2 masks2 pairs2) (square_check kinds ids fields components offsets nrows ncols) (total_of components) len seeds region frontier scratch ≡ Ok tt
     → Accepts nrows kinds ids fields components offsets ptr idx masks ptr2 idx2 masks2 seeds (length region) (length frontier) (length scratch)
 unfolding field_grow_check
 accepted-growth nrows ncols ptr idx masks pairs nrows2 ncols2 ptr2 idx2 masks2 pairs2 kinds ids fields components offsets len seeds region frontier scratch fits fits2 fits3 e =

@@ -1,17 +1,20 @@
 -- Closing to blocks, a block at a time: what a block taken whole or left makes of the mask. Assumes nothing.
 use mathlib.Core.Path.{◌≡◌, refl, sym, ap, ap₂, ◌∙◌, subst}
-use mathlib.Core.Logic.{◌⊎◌, inl, inr}
+use Rattle.std.specs.Prelude.{Ok}
+use mathlib.Core.Logic.{◌⊎◌, inl, inr, ◌≢◌}
+use native.Mathlib.Nat.{lt_of_le_of_lt}
+use native.Mathlib.Numerals.{add-one}
+use Rattle.word.proofs.Turns.{some_turn}
 use mathlib.Core.Bool.{Bool, ◌&&◌, ◌||◌}
 use mathlib.Core.List.{List}
 use Prim.Native.Nat.{ℕ, suc, ◌+◌, ◌-◌, ◌*◌, ◌/◌, ◌^◌, ◌≤◌, ◌<◌}
 use native.Mathlib.Omega.{arith}
 use borrow.Author.Tests.{leb-true}
-use lib.Bits.{bit_and, bit_or}
+use lib.Bits.{bit_and, bit_or, and_le_l}
 use lib.Dec.{T, leb, ltb, leb→le, lt→ltb, ltb→lt}
 use lib.ListN.{length, get_or, set}
 use Rattle.base.specs.Sets.{between}
 use Rattle.base.proofs.Bools.{bool-ext, and_l, and_r, and_i, or_l, or_r, or-e, eq-or-ne}
-use Rattle.base.specs.declared.Checked.{Checked}
 use Rattle.base.proofs.Checks.{passed, both-passed}
 use Rattle.base.proofs.Sets.{None}
 use Rattle.word.specs.Bits.{word_of}
@@ -19,12 +22,13 @@ use Rattle.mask.specs.Mask.{in_mask, words_needed, mask_words, IsMask}
 use Rattle.mask.specs.Answers.{with_range}
 use Rattle.mask.proofs.Masks.{mask-cong, mask-holds, accepted-length}
 use Rattle.mask.proofs.Nexts.{NoMember}
-use Rattle.mask.proofs.Stores.{in_range, ranged, range_none, range-turn, range-done}
+use Rattle.mask.proofs.Stores.{in_range, ranged, range-bits, range_none, range-turn, range-done}
 use Rattle.dof_layout.specs.Layout.{start_of, total_of, in_block, block_of, IsLayout}
 use Rattle.dof_layout.proofs.Layouts.{start-mono, block-is, block-below, block-holds, accepted-layout}
 use Rattle.graph.specs.Network.{closed}
 use Rattle.graph.proofs.Networks.{holding-i, holding-e}
 use Rattle.field_region.specs.Closure.{close_check}
+use Rattle.field_region.proofs.Blocks.{Block}
 
 -- ---- a block at a time
 
@@ -90,12 +94,15 @@ module _ (components : List ℕ) (p : ℕ → Bool) where
     inside : (i : ℕ) → T (in_block components b i) → i < total_of components
     inside i t = omega (arith, block-below components b i t, start-mono components (suc b) (length components) h)
 
-    module _ (start end : ℕ) (es : start_of components b ≡ start) (ee : start_of components (suc b) ≡ end) where
+    module _ (start end : ℕ) (k : Block components b start end) where
+      ee : start_of components (suc b) ≡ end
+      ee = ap (start_of components) (sym (add-one b)) ∙ k.ends
+
       range-is : (i : ℕ) → in_block components b i ≡ between start end i
-      range-is i = ap₂ (λ (x y : ℕ). between x y i) es ee
+      range-is i = ap₂ (λ (x y : ℕ). between x y i) k.starts ee
 
       -- a node of the block is selected: all join
-      pub closing-take : (j : ℕ) → T (in_range words start end j) → with_range (total_of components) words start end ≡ mask_words (total_of components) (closed_to (b + 1))
+      closing-take : (j : ℕ) → T (in_range words start end j) → with_range (total_of components) words start end ≡ mask_words (total_of components) (closed_to (b + 1))
       closing-take j t =
           mask-cong (total_of components) (λ i. in_mask words i || between start end i) (closed_to (b + 1))
           (λ i l. ap₂ (λ (x y : Bool). x || y) (held i l) (sym (range-is i)) ∙ bool-ext (closed_to b i || in_block components b i) (closed_to (b + 1) i) (λ u. to i (or-e (closed_to b i) (in_block components b i) u)) (λ u. from i l (narrower b i u)))
@@ -115,6 +122,13 @@ module _ (components : List ℕ) (p : ℕ → Bool) where
           from : (i : ℕ) → i < total_of components → T (closed_to b i) ⊎ ((block_of components i ≡ b) × T (whole i)) → T (closed_to b i || in_block components b i)
           from i l (inl u) = or_l (closed_to b i) (in_block components b i) u
           from i l (inr u) = or_r (closed_to b i) (in_block components b i) (subst (λ (x : ℕ). T (in_block components x i)) u.0 (block-holds components i l).1)
+
+      -- a bit of one of its words is set
+      pub closing-word : (w hi lo : ℕ) → hi ≡ word_of (λ i. ltb i end) w → lo ≡ word_of (λ i. ltb i start) w → get_or words w 0 < 2 ^ 64 → bit_and (get_or words w 0) (bit_and hi (2 ^ 64 - 1 - lo)) ≢ 0
+          → with_range (total_of components) words start end ≡ mask_words (total_of components) (closed_to (b + 1))
+      closing-word w hi lo eh el fits n =
+          let r = some_turn (in_range words start end) w (bit_and (get_or words w 0) (bit_and hi (2 ^ 64 - 1 - lo))) (range-bits words start end w hi lo eh el) (lt_of_le_of_lt (and_le_l (get_or words w 0) (bit_and hi (2 ^ 64 - 1 - lo))) fits) n in
+          closing-take r.0 r.3
 
       -- none is: it is closed as it is
       pub closing-leave : (w : ℕ) → end ≤ 64 * w → None (in_range words start end) (64 * w) → words ≡ mask_words (total_of components) (closed_to (b + 1))
@@ -161,7 +175,7 @@ range-one len words start end w hi lo m le h ew done eh el =
 -- ---- what acceptance gives
 
 pub accepted-close : (kinds ids fields components offsets : List ℕ) (len : ℕ) (words out : List ℕ) → ((w : ℕ) → get_or words w 0 < 2 ^ 64)
-    → close_check kinds ids fields components offsets len words out ≡ Checked.Accepted
+    → close_check kinds ids fields components offsets len words out ≡ Ok tt
     → IsLayout kinds ids fields components offsets × (len ≡ total_of components) × IsMask (total_of components) words × (words_needed (total_of components) ≤ length out)
 unfolding close_check
 accepted-close kinds ids fields components offsets len words out fits e =

@@ -1,5 +1,5 @@
--- Field growth on words: its network with the number of nodes as the code has it, the closed seeds, the blocks counted. Assumes nothing.
-use mathlib.Core.Path.{◌≡◌, sym, ap, ap₂, ◌∙◌, subst}
+-- Field growth on words: what is closed in place, the closed seeds, the blocks counted. Assumes nothing.
+use mathlib.Core.Path.{◌≡◌, sym, ap, ap₂, ◌∙◌}
 use mathlib.Core.Bool.{Bool, ◌&&◌}
 use mathlib.Core.List.{List}
 use Prim.Native.Nat.{ℕ, suc, ◌<◌}
@@ -13,33 +13,22 @@ use Rattle.mask.proofs.Masks.{mask-holds, mask-cong}
 use Rattle.dof_layout.specs.Layout.{start_of, total_of, block_of}
 use Rattle.dof_layout.proofs.Layouts.{block-is, in-block, start-suc, start-mono}
 use Rattle.graph.specs.Network.{Network, field_network, holding, closed, block_within, in_region, region_words}
-use Rattle.graph.proofs.Networks.{Whole, field-whole, hop-start}
+use Rattle.graph.proofs.Networks.{Whole, hop-start}
 use Rattle.growth.specs.Visits.{grown_by}
 use Rattle.growth.specs.declared.Grown.{Grown}
 use Rattle.field_region.specs.Closure.{closed_words}
 use Rattle.field_region.specs.Growth.{blocks_grown_by}
 
--- with n for the total
-abbrev pub network : ℕ → List ℕ → (ℕ → ℕ → Bool) → Network
-network n components s = record { nodes = n; blocks = length components; block = block_of components; stored = s }
-
-module _ (n : ℕ) (components : List ℕ) (s : ℕ → ℕ → Bool) (e : n ≡ total_of components) where
-  pub network-is : network n components s ≡ field_network components s
-  network-is = ap (λ (m : ℕ). network m components s) e
-
-  pub network-whole : Whole (network n components s)
-  network-whole = subst Whole (sym network-is) (field-whole components s)
-
-  pub closed-here : (x words : List ℕ) → x ≡ closed_words components words → x ≡ mask_words n (closed n (block_of components) (in_mask words))
-  closed-here x words h = h ∙ ap (λ (m : ℕ). mask_words m (closed m (block_of components) (in_mask words))) (sym e)
-
-  -- closed in place: what stood there was the words of a set
-  pub closed_after : (x y : List ℕ) (p : ℕ → Bool) → x ≡ closed_words components y → y ≡ mask_words n p → x ≡ mask_words n (closed n (block_of components) p)
-  unfolding holding
-  closed_after x y p h q =
-      closed-here x y h
-      ∙ mask-cong n (closed n (block_of components) (in_mask y)) (closed n (block_of components) p)
-      (λ i l. any-cong n _ _ (λ j k. ap (λ (v : Bool). eqb (block_of components j) (block_of components i) && v) (ap (λ (w : List ℕ). in_mask w j) q ∙ mask-holds n p j k)))
+-- closed in place: what stood there was the words of a set
+pub closed_after : (components x y : List ℕ) (p : ℕ → Bool) → x ≡ closed_words components y → y ≡ mask_words (total_of components) p → x ≡ mask_words (total_of components) (closed (total_of components) (block_of components) p)
+unfolding holding
+closed_after components x y p h q =
+    h
+    ∙ mask-cong n (closed n (block_of components) (in_mask y)) (closed n (block_of components) p)
+    (λ i l. any-cong n _ _ (λ j k. ap (λ (v : Bool). eqb (block_of components j) (block_of components i) && v) (ap (λ (w : List ℕ). in_mask w j) q ∙ mask-holds n p j k)))
+  where
+    n : ℕ
+    n = total_of components
 
 -- the closed seeds, counted in their words
 pub closed-count : (g : Network) (whole : Whole g) (seeds region : List ℕ) (r : ℕ) → region ≡ mask_words g.nodes (closed g.nodes g.block (in_mask seeds))
@@ -58,7 +47,7 @@ module _ (components : List ℕ) (s : ℕ → ℕ → Bool) (filled : (b : ℕ) 
   first_block : (b : ℕ) → b < length components → block_of components (start_of components b) ≡ b
   first_block b l = block-is components b (start_of components b) l (in-block components b (start_of components b) (omega arith) (omega (arith, start-suc components b, filled b l)))
 
-  pub start-below : (b : ℕ) → b < length components → start_of components b < total_of components
+  start-below : (b : ℕ) → b < length components → start_of components b < total_of components
   start-below b l = omega (arith, start-suc components b, filled b l, start-mono components (suc b) (length components) (omega arith))
 
   pub block-count : (seeds region : List ℕ) (h r : ℕ) → region ≡ region_words (field_network components s) seeds h

@@ -1,3 +1,4 @@
+pub mod Blocks
 pub mod Closing
 pub mod Owning
 pub mod Growing

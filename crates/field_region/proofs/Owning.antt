@@ -1,51 +1,57 @@
 -- Owners of blocks: what each check of a block says. Assumes nothing.
-use mathlib.Core.Path.{◌≡◌, refl, sym, ap₂}
-use mathlib.Core.Bool.{true, false}
-use mathlib.Core.List.{List}
-use Prim.Native.Nat.{ℕ, ◌+◌, ◌-◌, ◌≤◌, ◌<◌}
-use native.Mathlib.Omega.{arith}
-use borrow.Author.Tests.{lt-ltb, le-ltb, leb-true}
-use lib.Dec.{eqb}
-use lib.ListN.{length, get_or}
-use Rattle.base.specs.Checks.{plain}
+use Rattle.std.proofs.Common.{◌≡◌, refl, sym, ap, ap₂, ◌∙◌, Bool, true, false, List, ℕ, ◌+◌, ◌-◌, ◌≤◌, ◌<◌, arith, lt-ltb, le-ltb, leb-true, eqb, ltb, length, get_or, take, drop, length-drop, length-take-le, get_or-take, get_or-drop}
+use Rattle.std.specs.Prelude.{Ok, Err}
+use Rattle.base.specs.declared.Refusal.TheVariants.{OwnerOutOfRange, OwnersDiffer}
+use Rattle.base.specs.Checks.{must, ◌then◌}
+use Rattle.base.specs.Lists.{every}
 use Rattle.base.specs.Sets.{every_below}
-use Rattle.base.specs.declared.Checked.{Checked}
+use Rattle.base.proofs.Bools.{bool-ext, T_of, T_true}
 use Rattle.base.proofs.Checks.{pass, stop, last-pass, last-stop, passed, length-passed, both-passed}
-use Rattle.dof_layout.specs.Layout.{start_of, total_of, IsLayout}
-use Rattle.dof_layout.proofs.Layouts.{start-next, start-mono, accepted-layout}
-use Rattle.field_region.specs.Owners.{first_owner, same_owner, owner_check, owned_check, owners_check}
+use Rattle.base.proofs.Lists.{every-at, every-all}
+use Rattle.base.proofs.Sets.{every-i, every-e}
+use Rattle.dof_layout.specs.Layout.{total_of, IsLayout}
+use Rattle.dof_layout.proofs.Layouts.{accepted-layout}
+use Rattle.field_region.proofs.Blocks.{Block}
+use Rattle.field_region.specs.Owners.{same_owner, owner_check, owned_check, owners_check}
 
 -- ---- a block's owners
 
-module _ (components owners : List ℕ) (b : ℕ) where
-  -- a block that is not empty starts at a node
-  pub first-in : b < length components → 0 < get_or components b 0 → length owners ≡ total_of components → start_of components b < length owners
-  first-in h l e = omega (arith, start-next components b, start-mono components (b + 1) (length components) (omega arith), e)
+-- all of a part of a list
+pub every-part : (f : ℕ → Bool) (s : List ℕ) (from to : ℕ) → to ≤ length s → every f (take (to - from) (drop from s)) ≡ every_below (to - from) (λ j. f (get_or s (from + j) 0))
+every-part f s from to h =
+    bool-ext (every f part) (every_below (to - from) (λ j. f (get_or s (from + j) 0)))
+    (λ t. every-i (to - from) (λ j. f (get_or s (from + j) 0)) (λ j l. T_of _ (ap f (sym (at j l)) ∙ every-at f 0 part j (T_true _ t) (omega (arith, long)))))
+    (λ t. T_of _ (every-all f 0 part (λ j l. let u : j < to - from = omega (arith, long) in ap f (at j u) ∙ T_true _ (every-e (to - from) (λ j. f (get_or s (from + j) 0)) t j u))))
+  where
+    part : List ℕ
+    part = take (to - from) (drop from s)
 
-  module _ (start end : ℕ) (es : start_of components b ≡ start) (ee : start_of components (b + 1) ≡ end) where
-    -- what `owned` answers of it
-    pub same-is : every_below (end - start) (λ j. eqb (get_or owners (start + j) 0) (get_or owners start 0)) ≡ same_owner components owners b
-    unfolding same_owner
-    same-is =
-        let d : end - start ≡ get_or components b 0 = omega (arith, start-next components b) in
-        ap₂ (λ (k s : ℕ). every_below k (λ j. eqb (get_or owners (s + j) 0) (get_or owners s 0))) d (sym es)
+    long : length part ≡ to - from
+    long = length-take-le (to - from) (drop from s) (omega (arith, length-drop from s))
 
-  module _ (ranks : ℕ) where
-    pub owner-20 : ranks ≤ first_owner components owners b → owner_check components owners ranks b ≡ Checked.Refused (plain 20)
-    unfolding owner_check
-    owner-20 h = sym (stop _ _ _ _ (le-ltb _ _ h) refl)
+    at : (j : ℕ) → j < to - from → get_or part j 0 ≡ get_or s (from + j) 0
+    at j l = get_or-take (to - from) (drop from s) j 0 l ∙ get_or-drop from s j 0
 
-    pub owner-21 : first_owner components owners b < ranks → same_owner components owners b ≡ false → owner_check components owners ranks b ≡ Checked.Refused (plain 21)
-    unfolding owner_check
-    owner-21 h e = sym (pass _ _ _ _ (lt-ltb _ _ h) (last-stop _ _ _ e refl))
+module _ (components owners : List ℕ) (b start end : ℕ) (k : Block components b start end) (ranks : ℕ) where
+  check-is : owner_check components owners ranks b
+      ≡ (must (ltb (get_or owners start 0) ranks) OwnerOutOfRange then must (every_below (end - start) (λ j. eqb (get_or owners (start + j) 0) (get_or owners start 0))) OwnersDiffer)
+  unfolding owner_check same_owner
+  check-is =
+      let d : get_or components b 0 ≡ end - start = omega (arith, k.size) in
+      ap₂ (λ (z s : ℕ). must (ltb (get_or owners s 0) ranks) OwnerOutOfRange then must (every_below z (λ j. eqb (get_or owners (s + j) 0) (get_or owners s 0))) OwnersDiffer) d k.starts
 
-    pub owner-ok : first_owner components owners b < ranks → same_owner components owners b ≡ true → owner_check components owners ranks b ≡ Checked.Accepted
-    unfolding owner_check
-    owner-ok h e = sym (pass _ _ _ _ (lt-ltb _ _ h) (last-pass _ _ _ e refl))
+  pub owner-20 : ranks ≤ get_or owners start 0 → owner_check components owners ranks b ≡ Err OwnerOutOfRange
+  owner-20 h = check-is ∙ sym (stop _ _ _ _ (le-ltb _ _ h) refl)
+
+  pub owner-21 : get_or owners start 0 < ranks → every_below (end - start) (λ j. eqb (get_or owners (start + j) 0) (get_or owners start 0)) ≡ false → owner_check components owners ranks b ≡ Err OwnersDiffer
+  owner-21 h e = check-is ∙ sym (pass _ _ _ _ (lt-ltb _ _ h) (last-stop _ _ _ e refl))
+
+  pub owner-ok : get_or owners start 0 < ranks → every_below (end - start) (λ j. eqb (get_or owners (start + j) 0) (get_or owners start 0)) ≡ true → owner_check components owners ranks b ≡ Ok tt
+  owner-ok h e = check-is ∙ sym (pass _ _ _ _ (lt-ltb _ _ h) (last-pass _ _ _ e refl))
 
 -- ---- what acceptance gives
 
-pub accepted-owned : (components owners : List ℕ) (ranks room : ℕ) → owned_check components owners ranks room ≡ Checked.Accepted → (length owners ≡ total_of components) × (length components ≤ room)
+pub accepted-owned : (components owners : List ℕ) (ranks room : ℕ) → owned_check components owners ranks room ≡ Ok tt → (length owners ≡ total_of components) × (length components ≤ room)
 unfolding owned_check
 accepted-owned components owners ranks room e =
     let q = both-passed _ _ e in
@@ -54,7 +60,7 @@ accepted-owned components owners ranks room e =
     (length-passed _ _ q.0, leb-true _ _ (passed _ _ s.1))
 
 pub accepted-owners : (kinds ids fields components offsets owners : List ℕ) (ranks : ℕ) (out : List ℕ)
-    → owners_check kinds ids fields components offsets owners ranks out ≡ Checked.Accepted
+    → owners_check kinds ids fields components offsets owners ranks out ≡ Ok tt
     → IsLayout kinds ids fields components offsets × (length owners ≡ total_of components) × (length components ≤ length out)
 unfolding owners_check
 accepted-owners kinds ids fields components offsets owners ranks out e =

@@ -1,18 +1,19 @@
 -- grow_field_aware_region: the topology, the layout, 18, the mask, 25; the statistics. What its lists hold is in growth's specs/Lent.
 use Rattle.std.specs.Prelude.{List, ℕ, length}
+use Rattle.std.specs.Prelude.{Result}
+use Rattle.base.specs.Checks.{Check, answer}
+use Rattle.base.specs.declared.Refusal.{Refusal}
 use Rattle.base.specs.Checks.{◌then◌, after}
 use Rattle.base.specs.Sets.{count_below}
-use Rattle.base.specs.declared.Checked.{Checked}
 use Rattle.mask.specs.Mask.{in_mask, length_check}
 use Rattle.graph.specs.Network.{Network, block_within, in_region, visited, hops_made}
 use Rattle.growth.specs.Visits.{visits_of, grown_by}
 use Rattle.growth.specs.Lent.{masks_room}
 use Rattle.field_region.specs.declared.FieldAwareRegionStats.{FieldAwareRegionStats}
-use Rattle.field_region.specs.declared.FieldGrown.{FieldGrown}
 use Rattle.field_region.specs.declared.BlocksGrown.{BlocksGrown}
 
 -- `square` is the layout's own check with 18
-unfoldable pub field_grow_check : Checked → Checked → ℕ → ℕ → List ℕ → List ℕ → List ℕ → List ℕ → Checked
+unfoldable pub field_grow_check : Check → Check → ℕ → ℕ → List ℕ → List ℕ → List ℕ → List ℕ → Check
 field_grow_check topology square total len seeds region frontier scratch =
     topology
     then square
@@ -36,8 +37,8 @@ field_stats g seeds h =
       candidate_neighbor_bits = visits.candidate_bits;
     }
 
-abbrev pub field_grow_answer : Checked → Network → List ℕ → ℕ → FieldGrown
-field_grow_answer check g seeds h = after check (FieldGrown.Grown (field_stats g seeds h)) FieldGrown.Refused
+abbrev pub field_grow_answer : Check → Network → List ℕ → ℕ → Result FieldAwareRegionStats Refusal
+field_grow_answer check g seeds h = answer check (field_stats g seeds h)
 
 -- the work of a growth: the closed seeds counted, the hops and the visits
 abbrev pub blocks_grown_by : Network → List ℕ → ℕ → BlocksGrown

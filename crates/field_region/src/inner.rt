@@ -13,7 +13,7 @@ ghost use Rattle.field_region.specs.Closure.{closed_words};
 ghost use Rattle.field_region.specs.Owners.{owner_check, owned_check, owners_of};
 
 use crate::{BlocksGrown, FieldAwareRegionStats};
-use base::Checked;
+use base::Refusal;
 use growth::Grown;
 use word::AbtmTopologyWord;
 
@@ -25,18 +25,15 @@ pub fn close_in_place(components: &[u32], offsets: &[u64], words: &mut [u64])
 {
     let total = offsets[components.len()] as usize;
     let mut next: usize = 0;
-    let mut b: usize = 0;
-    'blocks: while b < components.len() {
+    'blocks: for b in 0..components.len() {
         let start = offsets[b] as usize;
         let end = offsets[b + 1] as usize;
-        b += 1;
         if end <= next {
             continue 'blocks;
         }
         let first = start / AbtmTopologyWord::BITS;
         let stop = mask::inner::words_for(end);
-        let mut w = first;
-        while w < stop {
+        for w in first..stop {
             let block = mask::inner::bits_below(end, w) & !mask::inner::bits_below(start, w);
             if words[w] & block != 0 {
                 if stop == first + 1 {
@@ -46,7 +43,6 @@ pub fn close_in_place(components: &[u32], offsets: &[u64], words: &mut [u64])
                 mask::inner::add_range(total, words, start, end);
                 continue 'blocks;
             }
-            w += 1;
         }
         next = mask::inner::next_member(total, words, end);
     }
@@ -57,11 +53,7 @@ pub fn close(components: &[u32], offsets: &[u64], words: &[u64], out: &mut [u64]
     requires { (offsets.now ≡ offsets_of components.now) × (total_of components.now ≤ side_limit) × IsMask (total_of components.now) words.now × (length out.old ≡ words_needed (total_of components.now)) }
     ensures { out.new ≡ closed_words components.now words.now }
 {
-    let mut w: usize = 0;
-    while w < words.len() {
-        out[w] = words[w];
-        w += 1;
-    }
+    out.copy_from_slice(words);
     close_in_place(components, offsets, out);
 }
 
@@ -70,35 +62,31 @@ fn owned(dof_owners: &[u32], start: usize, end: usize, owner: u32) -> bool
     requires { (start ≤ end) × (end ≤ length dof_owners.now) }
     ensures { result ≡ every_below (end - start) (λ j. eqb (get_or dof_owners.now (start + j) 0) owner) }
 {
-    let mut i = start;
-    while i < end {
-        if dof_owners[i] != owner {
-            return false;
-        }
-        i += 1;
-    }
-    true
+    dof_owners[start..end].iter().all(|x| *x == owner)
 }
 
 // 20 and 21, block by block.
-pub fn check_blocks(components: &[u32], offsets: &[u64], dof_owners: &[u32], ranks: u32) -> Checked
+pub fn check_blocks(
+    components: &[u32],
+    offsets: &[u64],
+    dof_owners: &[u32],
+    ranks: u32,
+) -> Result<(), Refusal>
     requires { (offsets.now ≡ offsets_of components.now) × (total_of components.now ≤ side_limit) × ((b : ℕ) → b < length components.now → 0 < get_or components.now b 0) × (length dof_owners.now ≡ total_of components.now) }
     ensures { result ≡ checks_below (length components.now) (owner_check components.now dof_owners.now ranks) }
 {
-    let mut b: usize = 0;
-    while b < components.len() {
+    for b in 0..components.len() {
         let start = offsets[b] as usize;
         let end = offsets[b + 1] as usize;
         let owner = dof_owners[start];
         if owner >= ranks {
-            return base::refused(20);
+            return Err(Refusal::OwnerOutOfRange);
         }
         if !owned(dof_owners, start, end, owner) {
-            return base::refused(21);
+            return Err(Refusal::OwnersDiffer);
         }
-        b += 1;
     }
-    Checked::Accepted
+    Ok(())
 }
 
 // The owners' length, the ranks, block by block, the length of the list: all but the layout.
@@ -108,26 +96,22 @@ pub fn check_owned(
     dof_owners: &[u32],
     ranks: u32,
     room: usize,
-) -> Checked
+) -> Result<(), Refusal>
     requires { (offsets.now ≡ offsets_of components.now) × (total_of components.now ≤ side_limit) × ((b : ℕ) → b < length components.now → 0 < get_or components.now b 0) }
     ensures { result ≡ owned_check components.now dof_owners.now ranks room }
 {
     let total = offsets[components.len()] as usize;
     if dof_owners.len() != total {
-        return base::wrong_length(total, dof_owners.len());
+        return Err(Refusal::wrong_length(total, dof_owners.len()));
     }
     if ranks == 0 {
-        return base::refused(19);
+        return Err(Refusal::NoRanks);
     }
-    match check_blocks(components, offsets, dof_owners, ranks) {
-        Checked::Refused(r) => Checked::Refused(r),
-        Checked::Accepted => {
-            if components.len() > room {
-                return base::refused(25);
-            }
-            Checked::Accepted
-        }
+    check_blocks(components, offsets, dof_owners, ranks)?;
+    if components.len() > room {
+        return Err(Refusal::ListTooShort);
     }
+    Ok(())
 }
 
 // Each block's first owner at the front of `out`, which has room for them.
@@ -135,10 +119,8 @@ pub fn write_owners(components: &[u32], offsets: &[u64], dof_owners: &[u32], out
     requires { (offsets.now ≡ offsets_of components.now) × (total_of components.now ≤ side_limit) × ((b : ℕ) → b < length components.now → 0 < get_or components.now b 0) × (length dof_owners.now ≡ total_of components.now) × (length components.now ≤ length out.old) }
     ensures { out.new ≡ over (owners_of components.now dof_owners.now) out.old }
 {
-    let mut b: usize = 0;
-    while b < components.len() {
+    for b in 0..components.len() {
         out[b] = dof_owners[offsets[b] as usize];
-        b += 1;
     }
 }
 
@@ -149,12 +131,10 @@ pub fn count_blocks(components: &[u32], offsets: &[u64], region: &[u64]) -> u64
 {
     let total = offsets[components.len()] as usize;
     let mut count: u64 = 0;
-    let mut b: usize = 0;
-    while b < components.len() {
+    for b in 0..components.len() {
         if mask::inner::holds(total, region, offsets[b] as usize) {
             count += 1;
         }
-        b += 1;
     }
     count
 }
@@ -188,8 +168,7 @@ pub fn grow_blocks(
     let closed_seeds = mask::inner::count(n, region);
     let mut visits = growth::inner::none();
     let mut some = mask::inner::any_node(n, frontier);
-    let mut k: u64 = 0;
-    while k < hops {
+    for k in 0..hops {
         if !some {
             return BlocksGrown {
                 closed_seeds,
@@ -210,11 +189,10 @@ pub fn grow_blocks(
         visits = growth::inner::plus(visits, found);
         close_in_place(components, offsets, scratch);
         some = growth::inner::settle(n, region, frontier, scratch);
-        k += 1;
     }
     BlocksGrown {
         closed_seeds,
-        grown: Grown { hops: k, visits },
+        grown: Grown { hops, visits },
     }
 }
 

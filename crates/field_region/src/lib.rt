@@ -13,7 +13,7 @@ ghost use Rattle.field_region.specs.Growth.{field_grow_check, field_grow_answer}
 ghost use Rattle.field_region.specs.Closure.{close_check, close_answer, close_words};
 ghost use Rattle.field_region.specs.Owners.{owners_check, owners_answer, owners_list};
 
-use base::{Checked, Counted, Refusal};
+use base::Refusal;
 use growth::Grown;
 
 pub mod inner;
@@ -30,12 +30,6 @@ pub struct FieldAwareRegionStats {
     pub row_words_visited: u64,
     pub column_words_visited: u64,
     pub candidate_neighbor_bits: u64,
-}
-
-#[derive(Clone, Copy)]
-pub enum FieldGrown {
-    Grown(FieldAwareRegionStats),
-    Refused(Refusal),
 }
 
 // A growth, and how many nodes its seeds' blocks hold.
@@ -55,24 +49,16 @@ fn check_close(
     len: usize,
     words: &[u64],
     out: &[u64],
-) -> Checked
+) -> Result<(), Refusal>
     ensures { result ≡ close_check entity_kinds.now entity_ids.now field_ids.now components.now offsets.now len words.now out.now }
 {
-    match dof_layout::check(entity_kinds, entity_ids, field_ids, components, offsets) {
-        Checked::Refused(r) => Checked::Refused(r),
-        Checked::Accepted => {
-            let total = offsets[components.len()] as usize;
-            match mask::inner::check_length(total, len, words) {
-                Checked::Refused(r) => Checked::Refused(r),
-                Checked::Accepted => {
-                    if mask::inner::words_for(total) > out.len() {
-                        return base::refused(25);
-                    }
-                    Checked::Accepted
-                }
-            }
-        }
+    dof_layout::check(entity_kinds, entity_ids, field_ids, components, offsets)?;
+    let total = offsets[components.len()] as usize;
+    mask::inner::check_length(total, len, words)?;
+    if mask::inner::words_for(total) > out.len() {
+        return Err(Refusal::ListTooShort);
     }
+    Ok(())
 }
 
 // Each block with a selected node is taken whole.
@@ -85,11 +71,11 @@ pub fn close_to_field_blocks(
     len: usize,
     words: &[u64],
     out: &mut [u64],
-) -> Counted
+) -> Result<u64, Refusal>
     ensures value { result ≡ close_answer (close_check entity_kinds.now entity_ids.now field_ids.now components.now offsets.now len words.now out.old) len }
     ensures out_after { out.new ≡ close_words (close_check entity_kinds.now entity_ids.now field_ids.now components.now offsets.now len words.now out.old) components.now words.now out.old }
 {
-    match check_close(
+    check_close(
         entity_kinds,
         entity_ids,
         field_ids,
@@ -98,14 +84,10 @@ pub fn close_to_field_blocks(
         len,
         words,
         out,
-    ) {
-        Checked::Refused(r) => Counted::Refused(r),
-        Checked::Accepted => {
-            let need = mask::inner::words_for(len);
-            inner::close(components, offsets, words, &mut out[..need]);
-            Counted::Count(len as u64)
-        }
-    }
+    )?;
+    let need = mask::inner::words_for(len);
+    inner::close(components, offsets, words, &mut out[..need]);
+    Ok(len as u64)
 }
 
 // The layout, then what its owners must be.
@@ -118,15 +100,11 @@ fn check_owners(
     dof_owners: &[u32],
     ranks: u32,
     out: &[u32],
-) -> Checked
+) -> Result<(), Refusal>
     ensures { result ≡ owners_check entity_kinds.now entity_ids.now field_ids.now components.now offsets.now dof_owners.now ranks out.now }
 {
-    match dof_layout::check(entity_kinds, entity_ids, field_ids, components, offsets) {
-        Checked::Refused(r) => Checked::Refused(r),
-        Checked::Accepted => {
-            inner::check_owned(components, offsets, dof_owners, ranks, out.len())
-        }
-    }
+    dof_layout::check(entity_kinds, entity_ids, field_ids, components, offsets)?;
+    inner::check_owned(components, offsets, dof_owners, ranks, out.len())
 }
 
 // The owner of each block, which all its nodes have.
@@ -139,11 +117,11 @@ pub fn field_block_owners(
     dof_owners: &[u32],
     ranks: u32,
     out: &mut [u32],
-) -> Counted
+) -> Result<u64, Refusal>
     ensures value { result ≡ owners_answer (owners_check entity_kinds.now entity_ids.now field_ids.now components.now offsets.now dof_owners.now ranks out.old) components.now }
     ensures out_after { out.new ≡ owners_list (owners_check entity_kinds.now entity_ids.now field_ids.now components.now offsets.now dof_owners.now ranks out.old) components.now dof_owners.now out.old }
 {
-    match check_owners(
+    check_owners(
         entity_kinds,
         entity_ids,
         field_ids,
@@ -152,13 +130,9 @@ pub fn field_block_owners(
         dof_owners,
         ranks,
         out,
-    ) {
-        Checked::Refused(r) => Counted::Refused(r),
-        Checked::Accepted => {
-            inner::write_owners(components, offsets, dof_owners, out);
-            Counted::Count(components.len() as u64)
-        }
-    }
+    )?;
+    inner::write_owners(components, offsets, dof_owners, out);
+    Ok(components.len() as u64)
 }
 
 // The topology, the layout against it, the mask, the lengths of the lists.
@@ -185,10 +159,10 @@ fn check_growth(
     region: &[u64],
     frontier: &[u64],
     scratch: &[u64],
-) -> Checked
+) -> Result<(), Refusal>
     ensures { result ≡ field_grow_check (topology_check nrows ncols row_word_ptr.now row_word_indices.now row_masks.now structural_nnz column_nrows column_ncols column_word_ptr.now column_word_indices.now column_masks.now column_structural_nnz) (square_check entity_kinds.now entity_ids.now field_ids.now components.now offsets.now nrows ncols) (total_of components.now) len words.now region.now frontier.now scratch.now }
 {
-    match dual_topology::validate(
+    dual_topology::validate(
         nrows,
         ncols,
         row_word_ptr,
@@ -201,26 +175,18 @@ fn check_growth(
         column_word_indices,
         column_masks,
         column_structural_nnz,
-    ) {
-        Checked::Refused(r) => Checked::Refused(r),
-        Checked::Accepted => match dof_layout::validate_square_matrix_size(
-            entity_kinds,
-            entity_ids,
-            field_ids,
-            components,
-            offsets,
-            nrows,
-            ncols,
-        ) {
-            Checked::Refused(r) => Checked::Refused(r),
-            Checked::Accepted => match mask::inner::check_length(nrows, len, words) {
-                Checked::Refused(r) => Checked::Refused(r),
-                Checked::Accepted => {
-                    growth::inner::check_room(nrows, region.len(), frontier.len(), scratch.len())
-                }
-            },
-        },
-    }
+    )?;
+    dof_layout::validate_square_matrix_size(
+        entity_kinds,
+        entity_ids,
+        field_ids,
+        components,
+        offsets,
+        nrows,
+        ncols,
+    )?;
+    mask::inner::check_length(nrows, len, words)?;
+    growth::inner::check_room(nrows, region.len(), frontier.len(), scratch.len())
 }
 
 // The whole blocks within `hops` links of the mask's blocks, and those at exactly so many. The lists take a mask each; `scratch` is left zero.
@@ -248,13 +214,13 @@ pub fn grow_field_aware_region(
     region: &mut [u64],
     frontier: &mut [u64],
     scratch: &mut [u64],
-) -> FieldGrown
+) -> Result<FieldAwareRegionStats, Refusal>
     ensures value { result ≡ field_grow_answer (field_grow_check (topology_check nrows ncols row_word_ptr.now row_word_indices.now row_masks.now structural_nnz column_nrows column_ncols column_word_ptr.now column_word_indices.now column_masks.now column_structural_nnz) (square_check entity_kinds.now entity_ids.now field_ids.now components.now offsets.now nrows ncols) (total_of components.now) len words.now region.old frontier.old scratch.old) (field_network components.now (side_holds row_word_ptr.now row_word_indices.now row_masks.now)) words.now hops }
     ensures inside { region.new ≡ region_left (field_grow_check (topology_check nrows ncols row_word_ptr.now row_word_indices.now row_masks.now structural_nnz column_nrows column_ncols column_word_ptr.now column_word_indices.now column_masks.now column_structural_nnz) (square_check entity_kinds.now entity_ids.now field_ids.now components.now offsets.now nrows ncols) (total_of components.now) len words.now region.old frontier.old scratch.old) (field_network components.now (side_holds row_word_ptr.now row_word_indices.now row_masks.now)) words.now hops region.old }
     ensures edge { frontier.new ≡ frontier_left (field_grow_check (topology_check nrows ncols row_word_ptr.now row_word_indices.now row_masks.now structural_nnz column_nrows column_ncols column_word_ptr.now column_word_indices.now column_masks.now column_structural_nnz) (square_check entity_kinds.now entity_ids.now field_ids.now components.now offsets.now nrows ncols) (total_of components.now) len words.now region.old frontier.old scratch.old) (field_network components.now (side_holds row_word_ptr.now row_word_indices.now row_masks.now)) words.now hops frontier.old }
     ensures spent { scratch.new ≡ scratch_left (field_grow_check (topology_check nrows ncols row_word_ptr.now row_word_indices.now row_masks.now structural_nnz column_nrows column_ncols column_word_ptr.now column_word_indices.now column_masks.now column_structural_nnz) (square_check entity_kinds.now entity_ids.now field_ids.now components.now offsets.now nrows ncols) (total_of components.now) len words.now region.old frontier.old scratch.old) (total_of components.now) scratch.old }
 {
-    match check_growth(
+    check_growth(
         nrows,
         ncols,
         row_word_ptr,
@@ -277,23 +243,21 @@ pub fn grow_field_aware_region(
         region,
         frontier,
         scratch,
-    ) {
-        Checked::Refused(r) => FieldGrown::Refused(r),
-        Checked::Accepted => FieldGrown::Grown(inner::grow(
-            nrows,
-            row_word_ptr,
-            row_word_indices,
-            row_masks,
-            column_word_ptr,
-            column_word_indices,
-            column_masks,
-            components,
-            offsets,
-            words,
-            hops,
-            region,
-            frontier,
-            scratch,
-        )),
-    }
+    )?;
+    Ok(inner::grow(
+        nrows,
+        row_word_ptr,
+        row_word_indices,
+        row_masks,
+        column_word_ptr,
+        column_word_indices,
+        column_masks,
+        components,
+        offsets,
+        words,
+        hops,
+        region,
+        frontier,
+        scratch,
+    ))
 }

@@ -1,25 +1,26 @@
 -- A plan: what an accepted check gives, what stands at a place of the gathered list, and the plan of a list of lists of entries. Assumes nothing.
-use mathlib.Core.Path.{◌≡◌, refl, sym, ap, ap₂, ◌∙◌}
-use mathlib.Core.Bool.{Bool, true, false, cond}
-use mathlib.Core.List.{List, [], map}
+use mathlib.Core.Path.{◌≡◌, refl, sym, ap, ap₂, subst, ◌∙◌}
+use Rattle.std.specs.Prelude.{Ok}
+use mathlib.Core.Bool.{Bool, true, false, cond, ◌&&◌, and-true, and_assoc}
+use mathlib.Core.List.{List, [], ◌∷◌, ◌++◌, map}
 use Prim.Native.Nat.{ℕ, zero, suc, ◌+◌, ◌-◌, ◌≤◌, ◌<◌}
 use native.Mathlib.Numerals.{add-one}
 use native.Mathlib.Omega.{arith}
 use borrow.Author.Tests.{leb-true, ltb-true, eqb-true, eq-eqb}
 use lib.Dec.{T, leb, eqb}
-use lib.ListN.{length, get_or, length-append, length-map, get_or-map}
-use lib.Seq.{slice, slice-cons, slice_empty, ext_get_or}
+use lib.ListN.{length, get_or, take, length-append, length-map, get_or-map}
+use Rattle.std.proofs.lemmas.List.{map_more}
+use lib.Seq.{slice, ext_get_or}
 use lib.Ieee.{Float, nan, binary64, add}
 use Rattle.base.specs.Checks.{entry_limit}
-use Rattle.base.specs.Lists.{every, rising, below, join_below}
-use Rattle.base.specs.declared.Checked.{Checked}
+use Rattle.base.specs.Lists.{every, pairwise, rising, below, join_below}
 use Rattle.base.proofs.Bools.{bool-ext, T_of, T_true}
 use Rattle.base.proofs.Checks.{passed, length-passed, both-passed}
 use Rattle.base.proofs.Lists.{every-all, every-at, pairwise-at, pairwise-i, rise-to, get_or-slice, length-list_from, get_or-list_from}
 use Rattle.base.proofs.Joins.{join-none, join-next, join-slice}
 use Rattle.csr32.specs.Matrix.{finite}
 use Rattle.gather.specs.Plan.{entry_list, plan_sources, plan_ptr, direct}
-use Rattle.gather.specs.Gather.{total, values_of, sum_of, sources_at, is_one_each, summed, gathered, gather_check}
+use Rattle.gather.specs.Gather.{plus_zero, total, values_of, sum_of, sources_at, is_one_each, summed, gathered, gather_check}
 
 -- ---- what an accepted check gives
 
@@ -35,7 +36,7 @@ pub record Accepts (ptr src : List ℕ) (value_len : ℕ) (values out : List Flo
   pub all_finite : every finite values ≡ true
   pub room : length ptr - 1 ≤ length out
 
-pub accepted-gather : (ptr src : List ℕ) (value_len : ℕ) (values out : List Float) → gather_check ptr src value_len values out ≡ Checked.Accepted → Accepts ptr src value_len values out
+pub accepted-gather : (ptr src : List ℕ) (value_len : ℕ) (values out : List Float) → gather_check ptr src value_len values out ≡ Ok tt → Accepts ptr src value_len values out
 unfolding gather_check
 accepted-gather ptr src value_len values out e =
     let e1 = both-passed _ _ e in
@@ -62,10 +63,6 @@ accepted-gather ptr src value_len values out e =
 
 -- ---- pointers and sources
 
--- a source that passed the check is the place of a value
-pub source-below : (n : ℕ) (src : List ℕ) (k : ℕ) → every (below n) src ≡ true → k < length src → get_or src k 0 < n
-source-below n src k e h = ltb-true _ _ (every-at (below n) 0 src k e h)
-
 -- pointers that never fall: none is above a later one
 pub ptr-rises : (ptr : List ℕ) (i j : ℕ) → rising ptr ≡ true → i ≤ j → j < length ptr → get_or ptr i 0 ≤ get_or ptr j 0
 ptr-rises ptr i j e h l =
@@ -79,6 +76,19 @@ one-each-at ptr (suc i) e h =
     let n : get_or ptr (i + 1) 0 ≡ get_or ptr (suc i) 0 = ap (λ (k : ℕ). get_or ptr k 0) (add-one i) in
     omega (arith, one-each-at ptr i e (omega arith))
 
+-- one more pointer passes with the one before it
+pub pairwise_more : (f : ℕ → ℕ → Bool) (d : ℕ) (s : List ℕ) (i : ℕ) → 0 < i → i < length s → pairwise f (take (i + 1) s) ≡ (pairwise f (take i s) && f (get_or s (i - 1) d) (get_or s i d))
+pairwise_more f d s i p h =
+    let e : suc (i - 1) ≡ i = omega arith in
+    rw add-one (subst (λ (k : ℕ). pairwise f (take (suc k) s) ≡ (pairwise f (take k s) && f (get_or s (i - 1) d) (get_or s k d))) e (go s (i - 1) (rw e h)))
+  where
+    go : (s : List ℕ) (i : ℕ) → suc i < length s → pairwise f (take (suc (suc i)) s) ≡ (pairwise f (take (suc i) s) && f (get_or s i d) (get_or s (suc i) d))
+    go [] i h = absurd (omega arith)
+    go (x ∷ []) i h = absurd (omega arith)
+    go (x ∷ (y ∷ ys)) zero h = and-true (f x y)
+    go (x ∷ (y ∷ ys)) (suc i) h =
+        ap (λ (b : Bool). f x y && b) (go (y ∷ ys) i (omega arith)) ∙ sym (and_assoc (f x y) (pairwise f (take (suc i) (y ∷ ys))) (f (get_or (y ∷ ys) i d) (get_or (y ∷ ys) (suc i) d)))
+
 -- ---- values and sums
 
 pub summed-length : (ptr src : List ℕ) (values : List Float) → length (summed ptr src values) ≡ length ptr - 1
@@ -89,16 +99,13 @@ summed_at ptr src values i d h =
     let e : 0 + i ≡ i = omega arith in
     get_or-list_from (λ j. sum_of values (sources_at ptr src j)) (length ptr - 1) 0 i d (omega arith) ∙ ap (λ (j : ℕ). sum_of values (sources_at ptr src j)) e
 
--- one more source of a pair: the whole sum is the sum of what is left, from what there is
-pub total-step : (values : List Float) (src : List ℕ) (all sum : Float) (k to : ℕ) → k < to → to ≤ length src
-    → all ≡ total sum (values_of values (slice k to src)) → all ≡ total (add binary64 sum (get_or values (get_or src k 0) nan)) (values_of values (slice (k + 1) to src))
-total-step values src all sum k to h l e =
-    e ∙ ap (λ (s : List ℕ). total sum (values_of values s)) (slice-cons k to src 0 h l)
-    ∙ ap (λ (n : ℕ). total (add binary64 sum (get_or values (get_or src k 0) nan)) (values_of values (slice n to src))) (sym (add-one k))
-
-pub total-end : (values : List Float) (src : List ℕ) (all sum : Float) (k to : ℕ) → k ≡ to → all ≡ total sum (values_of values (slice k to src)) → sum ≡ all
-total-end values src all sum k to h e =
-    sym (e ∙ ap (λ (n : ℕ). total sum (values_of values (slice n to src))) h ∙ ap (λ (s : List ℕ). total sum (values_of values s)) (slice_empty to src))
+-- one more entry of a sum
+pub sum_more : (values : List Float) (src : List ℕ) (k : ℕ) → k < length src → sum_of values (take (k + 1) src) ≡ add binary64 (sum_of values (take k src)) (get_or values (get_or src k 0) nan)
+sum_more values src k h = ap (total plus_zero) (map_more (λ (e : ℕ). get_or values e nan) src k 0 h) ∙ last plus_zero (values_of values (take k src))
+  where
+    last : (sum : Float) (xs : List Float) → total sum (xs ++ get_or values (get_or src k 0) nan ∷ []) ≡ add binary64 (total sum xs) (get_or values (get_or src k 0) nan)
+    last sum [] = refl
+    last sum (x ∷ xs) = last (add binary64 sum x) xs
 
 -- ---- the plan of a list of lists: list i has the entries of pair i
 

@@ -1,13 +1,13 @@
 -- Document 01's examples of gathered values and of the refusals of gather_values, by computing the definitions. Assumes nothing.
 use mathlib.Core.Path.{◌≡◌, refl}
+use Rattle.std.specs.Prelude.{Ok, Err}
+use Rattle.base.specs.declared.Refusal.TheVariants.{NotFinite, ListTooShort, BadPointers, WrongLength}
 use mathlib.Core.Bool.{true, false}
 use mathlib.Core.List.{List, [], ◌∷◌}
 use lib.IntN.{pos, negsuc}
 use lib.Ieee.{Float, inf, fin, binary64, add, of_bits}
-use Rattle.base.specs.Checks.{plain, refusal_of_length, must, must_be, ◌then◌}
+use Rattle.base.specs.Checks.{must, must_be, ◌then◌}
 use Rattle.base.specs.Lists.{list_from}
-use Rattle.base.specs.declared.Checked.{Checked}
-use Rattle.base.specs.declared.Counted.{Counted}
 use Rattle.gather.specs.Gather.{plus_zero, gathered, gather_check, gather_answer, gather_left}
 
 -- 1.5, 2.25, 3.75 and -0.0
@@ -48,24 +48,24 @@ unfolding gathered list_from add
 gathers = record { both_nodes = refl; second_alone = refl }
 
 pub record Calls : Type 0 where
-  pub check : gather_check (0 ∷ 2 ∷ 3 ∷ []) (0 ∷ 1 ∷ 2 ∷ []) 3 values (first ∷ first ∷ first ∷ []) ≡ Checked.Accepted
-  pub count : gather_answer Checked.Accepted (0 ∷ 2 ∷ 3 ∷ []) ≡ Counted.Count 2
+  pub check : gather_check (0 ∷ 2 ∷ 3 ∷ []) (0 ∷ 1 ∷ 2 ∷ []) 3 values (first ∷ first ∷ first ∷ []) ≡ Ok tt
+  pub count : gather_answer (Ok tt) (0 ∷ 2 ∷ 3 ∷ []) ≡ Ok 2
   -- what stands past the values is as it was
-  pub left : gather_left Checked.Accepted (0 ∷ 2 ∷ 3 ∷ []) (0 ∷ 1 ∷ 2 ∷ []) values (first ∷ first ∷ first ∷ []) ≡ both ∷ plus_zero ∷ first ∷ []
+  pub left : gather_left (Ok tt) (0 ∷ 2 ∷ 3 ∷ []) (0 ∷ 1 ∷ 2 ∷ []) values (first ∷ first ∷ first ∷ []) ≡ both ∷ plus_zero ∷ first ∷ []
 
 pub calls : Calls
 unfolding gather_check must must_be ◌then◌ gathered list_from add
 calls = record { check = refl; count = refl; left = refl }
 
 pub record Refusals : Type 0 where
-  pub no_pointers : gather_check [] [] 0 [] [] ≡ Checked.Refused (plain 26)
-  pub one_one : gather_check (1 ∷ 1 ∷ []) [] 0 [] (first ∷ []) ≡ Checked.Refused (plain 26)
-  pub falls : gather_check (0 ∷ 2 ∷ 1 ∷ []) (0 ∷ []) 3 values (first ∷ first ∷ []) ≡ Checked.Refused (plain 26)
-  pub wrong_end : gather_check (0 ∷ 2 ∷ []) (0 ∷ []) 3 values (first ∷ []) ≡ Checked.Refused (plain 26)
-  pub past_values : gather_check (0 ∷ 1 ∷ []) (3 ∷ []) 3 values (first ∷ []) ≡ Checked.Refused (plain 26)
-  pub values_length : gather_check (0 ∷ 1 ∷ []) (2 ∷ []) 3 (first ∷ second ∷ []) (first ∷ []) ≡ Checked.Refused (refusal_of_length 3 2)
-  pub infinity : gather_check (0 ∷ 1 ∷ []) (2 ∷ []) 3 (first ∷ inf false ∷ second ∷ []) (first ∷ []) ≡ Checked.Refused (plain 8)
-  pub short_list : gather_check (0 ∷ 2 ∷ 3 ∷ []) (0 ∷ 1 ∷ 2 ∷ []) 3 values (first ∷ []) ≡ Checked.Refused (plain 25)
+  pub no_pointers : gather_check [] [] 0 [] [] ≡ Err BadPointers
+  pub one_one : gather_check (1 ∷ 1 ∷ []) [] 0 [] (first ∷ []) ≡ Err BadPointers
+  pub falls : gather_check (0 ∷ 2 ∷ 1 ∷ []) (0 ∷ []) 3 values (first ∷ first ∷ []) ≡ Err BadPointers
+  pub wrong_end : gather_check (0 ∷ 2 ∷ []) (0 ∷ []) 3 values (first ∷ []) ≡ Err BadPointers
+  pub past_values : gather_check (0 ∷ 1 ∷ []) (3 ∷ []) 3 values (first ∷ []) ≡ Err BadPointers
+  pub values_length : gather_check (0 ∷ 1 ∷ []) (2 ∷ []) 3 (first ∷ second ∷ []) (first ∷ []) ≡ Err (WrongLength 3 2)
+  pub infinity : gather_check (0 ∷ 1 ∷ []) (2 ∷ []) 3 (first ∷ inf false ∷ second ∷ []) (first ∷ []) ≡ Err NotFinite
+  pub short_list : gather_check (0 ∷ 2 ∷ 3 ∷ []) (0 ∷ 1 ∷ 2 ∷ []) 3 values (first ∷ []) ≡ Err ListTooShort
 
 pub refusals : Refusals
 unfolding gather_check must must_be ◌then◌

@@ -1,13 +1,15 @@
 -- gather_values: 1, 26, 11, 8, 25. A plan's pointers and sources say which entries each pair of the pattern has; a gather gives each pair one
 -- value: copied where every pair has one source, otherwise summed from 0.0.
 use Rattle.std.specs.Prelude.{Bool, false, cond, List, [], ◌∷◌, map, ℕ, ◌+◌, ◌-◌, leb, ltb, eqb, Float, pos, length, get_or}
+use Rattle.std.specs.Prelude.{Result}
+use Rattle.base.specs.Checks.{Check, answer}
+use Rattle.base.specs.declared.Refusal.{Refusal}
+use Rattle.base.specs.declared.Refusal.TheVariants.{OverLimit, NotFinite, ListTooShort, BadPointers}
 use Rattle.std.specs.Float.{nan, fin, binary64}
 use Rattle.std.specs.Float.Ieee.{add}
 use Rattle.std.proofs.Math.Seq.{slice}
 use Rattle.base.specs.Checks.{must, must_be, ◌then◌, after, leaves, entry_limit}
 use Rattle.base.specs.Lists.{every, pairwise, rising, below, list_from, over}
-use Rattle.base.specs.declared.Checked.{Checked}
-use Rattle.base.specs.declared.Counted.{Counted}
 use Rattle.csr32.specs.Matrix.{finite}
 
 -- ---- sums
@@ -49,21 +51,21 @@ gathered ptr src values = cond (is_one_each ptr) (values_of values src) (summed 
 -- ---- the call
 
 -- 1; the plan, 26; the values' length, 11; the values, 8; 25
-unfoldable pub gather_check : List ℕ → List ℕ → ℕ → List Float → List Float → Checked
+unfoldable pub gather_check : List ℕ → List ℕ → ℕ → List Float → List Float → Check
 gather_check ptr src value_len values out =
-    must (leb (length src) entry_limit) 1
-    then must (leb (length values) entry_limit) 1
-    then must (ltb 0 (length ptr)) 26
-    then must (eqb (get_or ptr 0 0) 0) 26
-    then must (rising ptr) 26
-    then must (eqb (get_or ptr (length ptr - 1) 0) (length src)) 26
-    then must (every (below value_len) src) 26
+    must (leb (length src) entry_limit) OverLimit
+    then must (leb (length values) entry_limit) OverLimit
+    then must (ltb 0 (length ptr)) BadPointers
+    then must (eqb (get_or ptr 0 0) 0) BadPointers
+    then must (rising ptr) BadPointers
+    then must (eqb (get_or ptr (length ptr - 1) 0) (length src)) BadPointers
+    then must (every (below value_len) src) BadPointers
     then must_be value_len (length values)
-    then must (every finite values) 8
-    then must (leb (length ptr - 1) (length out)) 25
+    then must (every finite values) NotFinite
+    then must (leb (length ptr - 1) (length out)) ListTooShort
 
-abbrev pub gather_answer : Checked → List ℕ → Counted
-gather_answer check ptr = after check (Counted.Count (length ptr - 1)) Counted.Refused
+abbrev pub gather_answer : Check → List ℕ → Result ℕ Refusal
+gather_answer check ptr = answer check (length ptr - 1)
 
-abbrev pub gather_left : Checked → List ℕ → List ℕ → List Float → List Float → List Float
+abbrev pub gather_left : Check → List ℕ → List ℕ → List Float → List Float → List Float
 gather_left check ptr src values out = leaves check (over (gathered ptr src values) out) out

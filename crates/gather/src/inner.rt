@@ -10,10 +10,8 @@ fn one_each(ptr: &[u32]) -> bool
     ensures { result ≡ is_one_each ptr.now }
 {
     let mut other: u32 = 0;
-    let mut i: usize = 1;
-    while i < ptr.len() {
+    for i in 1..ptr.len() {
         other |= (ptr[i] - ptr[i - 1]) ^ 1;
-        i += 1;
     }
     other == 0
 }
@@ -24,10 +22,8 @@ fn sum_pair(sources: &[u32], values: &[f64], from: usize, to: usize) -> f64
     ensures { result ≡ sum_of values.now (slice from to sources.now) }
 {
     let mut sum: f64 = 0.0;
-    let mut k = from;
-    while k < to {
-        sum += values[base::wide(sources[k])];
-        k += 1;
+    for s in &sources[from..to] {
+        sum += values[*s as usize];
     }
     sum
 }
@@ -36,10 +32,8 @@ fn sum_pairs(ptr: &[u32], sources: &[u32], values: &[f64], out: &mut [f64])
     requires { (0 < length ptr.now) × (rising ptr.now ≡ true) × (get_or ptr.now (length ptr.now - 1) 0 ≡ length sources.now) × (every (below (length values.now)) sources.now ≡ true) × (length ptr.now - 1 ≤ length out.old) }
     ensures { out.new ≡ over (summed ptr.now sources.now values.now) out.old }
 {
-    let mut i: usize = 0;
-    while i + 1 < ptr.len() {
-        out[i] = sum_pair(sources, values, base::wide(ptr[i]), base::wide(ptr[i + 1]));
-        i += 1;
+    for i in 0..ptr.len() - 1 {
+        out[i] = sum_pair(sources, values, ptr[i] as usize, ptr[i + 1] as usize);
     }
 }
 
@@ -47,10 +41,8 @@ fn copy_sources(sources: &[u32], values: &[f64], out: &mut [f64])
     requires { (every (below (length values.now)) sources.now ≡ true) × (length sources.now ≤ length out.old) }
     ensures { out.new ≡ over (values_of values.now sources.now) out.old }
 {
-    let mut i: usize = 0;
-    while i < sources.len() {
-        out[i] = values[base::wide(sources[i])];
-        i += 1;
+    for (i, s) in sources.iter().enumerate() {
+        out[i] = values[*s as usize];
     }
 }
 

@@ -2,11 +2,10 @@
 use mathlib.Core.Path.{◌≡◌, refl, sym, ap, ap₂, ◌∙◌}
 use mathlib.Core.Bool.{Bool, true, false, cond, ◌&&◌, ◌||◌}
 use mathlib.Core.List.{List}
-use Prim.Native.Nat.{ℕ, ◌+◌, ◌*◌, ◌≤◌, ◌<◌}
+use Prim.Native.Nat.{ℕ, ◌+◌, ◌≤◌, ◌<◌}
 use native.Mathlib.Omega.{arith}
 use lib.Dec.{T}
 use lib.ListN.{length}
-use Rattle.base.specs.Checks.{side_limit, entry_limit}
 use Rattle.base.specs.Sets.{any_below, sum_below, sum_over, count_below, one_if}
 use Rattle.base.proofs.Bools.{T_true, and_l}
 use Rattle.base.proofs.Sets.{any-past, any_next, any_none, over-past, over-le, sum-zero, sum-suc, sum_mono, sum-add, count_past, count-le}
@@ -17,7 +16,7 @@ use Rattle.side.specs.Side.{flip, words_of_row, side_holds}
 use Rattle.dual_topology.specs.Check.{IsTopology}
 use Rattle.dual_topology.proofs.Accepted.{column-is, columns-are}
 use Rattle.graph.specs.Network.{joined, touched}
-use Rattle.growth.specs.Visits.{taken_of, visits_of}
+use Rattle.growth.specs.Visits.{taken_of, visits_of, Small}
 use Rattle.growth.specs.declared.Taken.{Taken}
 use Rattle.growth.proofs.Visits.{counts, same-counts, words-within, bits-within, column-words-within, column-bits-within}
 
@@ -141,30 +140,25 @@ module _ (n : ℕ) (ptr idx masks ptr2 idx2 masks2 : List ℕ) (m : IsTopology n
     room : (f : ℕ → ℕ) → sum_over i (in_mask frontier) f + f i ≤ sum_below n f
     room f = omega (arith, over-le i (in_mask frontier) f, sum-suc i f, sum_mono (i + 1) n f (omega arith))
 
-    pub nodes-fit : nodes ≤ side_limit
-    nodes-fit = omega (arith, at.many, count-le i (in_mask frontier), m.rows.few_cols)
-
-    pub row-words-fit : row_words + row.words ≤ entry_limit
-    row-words-fit =
-        let e : row.words ≡ length (words_of_row n (rows i)) = ap (λ (t : Taken). t.words) er in
-        omega (arith, at.by_rows, e, room (λ a. length (words_of_row n (rows a))), words-within n ptr idx masks m.rows)
-
-    pub column-words-fit : column_words + column.words ≤ entry_limit
-    column-words-fit = omega (arith, at.by_columns, column-words-are, room (λ a. length (words_of_row n (flip rows a))), column-words-within n ptr idx masks ptr2 idx2 masks2 m)
-
-    pub bits_fit : bits + (row.bits + column.bits) ≤ 2 * entry_limit
-    bits_fit =
-        let e : row.bits ≡ count_below n (rows i) = ap (λ (t : Taken). t.bits) er in
-        omega (
-          arith,
-          at.by_bits,
-          e,
-          column-bits-are,
-          room (λ a. count_below n (rows a) + count_below n (flip rows a)),
-          sum-add n (λ a. count_below n (rows a)) (λ a. count_below n (flip rows a)),
-          bits-within n ptr idx masks m.rows,
-          column-bits-within n ptr idx masks ptr2 idx2 masks2 m,
-        )
+    pub turn-small : Small (counts nodes (row_words + row.words) (column_words + column.words) (bits + (row.bits + column.bits)))
+    turn-small =
+        let words : row.words ≡ length (words_of_row n (rows i)) = ap (λ (t : Taken). t.words) er in
+        let set-bits : row.bits ≡ count_below n (rows i) = ap (λ (t : Taken). t.bits) er in
+        record {
+          few_nodes = omega (arith, at.many, count-le i (in_mask frontier), m.rows.few_cols);
+          few_row_words = omega (arith, at.by_rows, words, room (λ a. length (words_of_row n (rows a))), words-within n ptr idx masks m.rows);
+          few_column_words = omega (arith, at.by_columns, column-words-are, room (λ a. length (words_of_row n (flip rows a))), column-words-within n ptr idx masks ptr2 idx2 masks2 m);
+          few_bits = omega (
+            arith,
+            at.by_bits,
+            set-bits,
+            column-bits-are,
+            room (λ a. count_below n (rows a) + count_below n (flip rows a)),
+            sum-add n (λ a. count_below n (rows a)) (λ a. count_below n (flip rows a)),
+            bits-within n ptr idx masks m.rows,
+            column-bits-within n ptr idx masks ptr2 idx2 masks2 m,
+          );
+        }
 
     pub visit-turn : (i' : ℕ) (reached₁ reached₂ : List ℕ) → Next n frontier (i + 1) i'
         → reached₁ ≡ mask_words n (λ j. in_mask reached j || rows i j) → reached₂ ≡ mask_words n (λ j. in_mask reached₁ j || columns i j)

@@ -1,5 +1,6 @@
 -- The three lists of a growth: what acceptance says of their lengths, and what stands in them afterwards. Assumes nothing.
 use mathlib.Core.Path.{◌≡◌, sym, ap, ◌∙◌}
+use Rattle.std.specs.Prelude.{Ok}
 use mathlib.Core.Bool.{false}
 use mathlib.Core.List.{List}
 use Prim.Native.Nat.{ℕ, ◌≤◌}
@@ -7,7 +8,6 @@ use borrow.Author.Tests.{leb-true}
 use lib.ListN.{length, replicate}
 use Rattle.base.specs.Checks.{side_limit}
 use Rattle.base.specs.Sets.{count_below}
-use Rattle.base.specs.declared.Checked.{Checked}
 use Rattle.base.proofs.Checks.{both-passed, passed}
 use Rattle.base.proofs.Sets.{count-cong}
 use Rattle.mask.specs.Mask.{in_mask, words_needed, mask_words, IsMask}
@@ -16,7 +16,7 @@ use Rattle.graph.specs.Network.{Network, in_region, region_words, frontier_words
 use Rattle.graph.proofs.Networks.{region-at}
 use Rattle.growth.specs.Lent.{masks_room}
 
-pub masks-fit : (n region frontier scratch : ℕ) → masks_room n region frontier scratch ≡ Checked.Accepted
+pub masks-fit : (n region frontier scratch : ℕ) → masks_room n region frontier scratch ≡ Ok tt
     → (words_needed n ≤ region) × (words_needed n ≤ frontier) × (words_needed n ≤ scratch)
 unfolding masks_room
 masks-fit n region frontier scratch e =

@@ -2,11 +2,11 @@
 use mathlib.Core.Path.{◌≡◌, refl, sym, ap, ap₂, ◌∙◌, subst}
 use mathlib.Core.Bool.{Bool, true, false, not, ◌&&◌, ◌||◌}
 use mathlib.Core.List.{List}
-use Prim.Native.Nat.{ℕ, ◌+◌, ◌-◌, ◌*◌, ◌^◌, ◌≤◌, ◌<◌}
+use Prim.Native.Nat.{ℕ, ◌+◌, ◌-◌, ◌*◌, ◌^◌, ◌<◌}
 use native.Mathlib.Omega.{arith}
 use lib.Bits.{bit_and, bit_or}
 use lib.Dec.{eqb}
-use lib.ListN.{length, get_or, set, get_or-replicate, length-set}
+use lib.ListN.{length, get_or, set, get_or-replicate}
 use Rattle.base.specs.Lists.{written}
 use Rattle.base.specs.Sets.{any_below}
 use Rattle.base.proofs.Lists.{put_next, put_whole, put-ahead}
@@ -55,10 +55,6 @@ module _ (n : ℕ) (region reached : List ℕ) (mg : IsMask n region) (mr : IsMa
 -- ---- what `settle` has done at word w
 
 pub record Settled (n : ℕ) (region₀ frontier₀ reached₀ region frontier reached : List ℕ) (some w : ℕ) : Type 0 where
-  pub within : w ≤ length region₀
-  pub region_long : length region ≡ length region₀
-  pub frontier_long : length frontier ≡ length frontier₀
-  pub reached_long : length reached ≡ length reached₀
   pub region_is : region ≡ written w (combined union n region₀ reached₀) region₀
   pub frontier_is : frontier ≡ written w (combined and_not_of n reached₀ region₀) frontier₀
   pub reached_is : reached ≡ written w (mask_words n (λ i. false)) reached₀
@@ -89,10 +85,6 @@ module _ (n : ℕ) (region frontier reached : List ℕ) (mg : IsMask n region) (
 
   pub settle-start : Settled n region frontier reached region frontier reached 0 0
   settle-start = record {
-    within = omega arith;
-    region_long = refl;
-    frontier_long = refl;
-    reached_long = refl;
     region_is = refl;
     frontier_is = refl;
     reached_is = refl;
@@ -105,19 +97,15 @@ module _ (n : ℕ) (region frontier reached : List ℕ) (mg : IsMask n region) (
     abbrev x : ℕ
     x = bit_and (get_or r w 0) (2 ^ 64 - 1 - get_or g w 0)
 
-    pub settle_turn : w < length g → Settled n region frontier reached (set g w (bit_or (get_or g w 0) x)) (set f w x) (set r w 0) (bit_or some x) (w + 1)
+    pub settle_turn : w < length region → Settled n region frontier reached (set g w (bit_or (get_or g w 0) x)) (set f w x) (set r w 0) (bit_or some x) (w + 1)
     settle_turn h =
-        let k : w < words_needed n = omega (arith, s.region_long, long.0) in
+        let k : w < words_needed n = omega (arith, long.0) in
         let a : get_or g w 0 ≡ get_or region w 0 = ap (λ (l : List ℕ). get_or l w 0) s.region_is ∙ put-ahead All region w 0 (omega (arith, all-long)) (omega (arith, long.0)) in
         let b : get_or r w 0 ≡ get_or reached w 0 = ap (λ (l : List ℕ). get_or l w 0) s.reached_is ∙ put-ahead Spent reached w 0 (omega (arith, spent-long)) (omega (arith, long.2)) in
         let e : x ≡ get_or New w 0 = ap₂ (λ (u v : ℕ). bit_and u (2 ^ 64 - 1 - v)) b a ∙ fresh-word n region reached mg mr w (omega (arith, long.0)) in
         let v : bit_or (get_or g w 0) x ≡ get_or All w 0 = ap₂ bit_or a e ∙ region-word n region reached mg mr w (omega (arith, long.0)) in
         let m : IsMask n New = fresh-is n region reached mg mr in
         record {
-          within = omega (arith, long.0);
-          region_long = length-set g w (bit_or (get_or g w 0) x) ∙ s.region_long;
-          frontier_long = length-set f w x ∙ s.frontier_long;
-          reached_long = length-set r w 0 ∙ s.reached_long;
           region_is = put_next All region g w (bit_or (get_or g w 0) x) 0 (omega (arith, all-long)) (omega (arith, long.0)) s.region_is v;
           frontier_is = put_next New frontier f w x 0 (omega (arith, new-long)) (omega (arith, long.1)) s.frontier_is e;
           reached_is = put_next Spent reached r w 0 0 (omega (arith, spent-long)) (omega (arith, long.2)) s.reached_is (zero_word n w k);
@@ -125,9 +113,9 @@ module _ (n : ℕ) (region frontier reached : List ℕ) (mg : IsMask n region) (
           found = ap (λ (u : ℕ). not (eqb (bit_or some u) 0)) e ∙ any-turn n New m w some (omega (arith, new-long)) s.fits s.found;
         }
 
-    pub settle-end : length g ≤ w → (not (eqb some 0) ≡ any_below n (in_mask f)) × (g ≡ All) × (f ≡ New) × (r ≡ Spent)
+    pub settle-end : w ≡ length region → (not (eqb some 0) ≡ any_below n (in_mask f)) × (g ≡ All) × (f ≡ New) × (r ≡ Spent)
     settle-end h =
-        let w-is : w ≡ words_needed n = omega (arith, s.within, s.region_long, long.0) in
+        let w-is : w ≡ words_needed n = omega (arith, long.0) in
         let end : f ≡ New = put_whole New frontier f w (new-long ∙ sym long.1) (w-is ∙ sym long.1) s.frontier_is in (
           s.found ∙ ap (λ (k : ℕ). any_below (64 * k) (in_mask New)) (w-is ∙ sym new-long) ∙ any-whole n New (fresh-is n region reached mg mr) ∙ ap (λ (l : List ℕ). any_below n (in_mask l)) (sym end),
           put_whole All region g w (all-long ∙ sym long.0) (w-is ∙ sym long.0) s.region_is,

@@ -12,24 +12,24 @@ ghost use Rattle.growth.specs.Visits.{taken_of, visits_of, nothing, together, Sm
 ghost use Rattle.growth.specs.Lent.{masks_room};
 
 use crate::{Grown, Taken, Visited};
-use base::Checked;
+use base::Refusal;
 
 // The lengths of the three lists.
-pub fn check_room(n: usize, region: usize, frontier: usize, scratch: usize) -> Checked
+pub fn check_room(n: usize, region: usize, frontier: usize, scratch: usize) -> Result<(), Refusal>
     requires { n ≤ side_limit }
     ensures { result ≡ masks_room n region frontier scratch }
 {
     let need = mask::inner::words_for(n);
     if region < need {
-        return base::refused(25);
+        return Err(Refusal::ListTooShort);
     }
     if frontier < need {
-        return base::refused(25);
+        return Err(Refusal::ListTooShort);
     }
     if scratch < need {
-        return base::refused(25);
+        return Err(Refusal::ListTooShort);
     }
-    Checked::Accepted
+    Ok(())
 }
 
 // Row i of one side joins the mask, word by word.
@@ -48,12 +48,10 @@ fn take_row(
     let from = row_word_ptr[i] as usize;
     let to = row_word_ptr[i + 1] as usize;
     let mut bits: u64 = 0;
-    let mut k = from;
-    while k < to {
+    for k in from..to {
         let mask = masks[k];
         reached[word_indices[k] as usize] |= mask;
         bits += u64::count_ones(mask) as u64;
-        k += 1;
     }
     Taken {
         words: (to - from) as u64,
@@ -115,14 +113,12 @@ pub fn settle(n: usize, region: &mut [u64], frontier: &mut [u64], reached: &mut 
     ensures reached_after { reached.new ≡ mask_words n (λ i. false) }
 {
     let mut some: u64 = 0;
-    let mut w: usize = 0;
-    while w < region.len() {
+    for w in 0..region.len() {
         let fresh = reached[w] & !region[w];
         region[w] |= fresh;
         frontier[w] = fresh;
         reached[w] = 0;
         some |= fresh;
-        w += 1;
     }
     some != 0
 }
@@ -178,8 +174,7 @@ pub fn grow(
     mask::inner::clear(n, scratch);
     let mut visits = none();
     let mut some = mask::inner::any_node(n, frontier);
-    let mut k: u64 = 0;
-    while k < hops {
+    for k in 0..hops {
         if !some {
             return Grown { hops: k, visits };
         }
@@ -196,7 +191,6 @@ pub fn grow(
         );
         visits = plus(visits, found);
         some = settle(n, region, frontier, scratch);
-        k += 1;
     }
-    Grown { hops: k, visits }
+    Grown { hops, visits }
 }

@@ -1,68 +1,54 @@
 -- The list of growths on lent lists, growth by growth: what holds after each, for plain growths and for field growths alike. Assumes nothing.
 use mathlib.Core.Path.{◌≡◌, refl, sym, ap, ap₂, ◌∙◌, subst}
+use Rattle.std.specs.Prelude.{Ok, Err}
+use Rattle.base.specs.Checks.{Check}
+use Rattle.base.specs.declared.Refusal.TheVariants.{ListTooShort}
 use mathlib.Core.Bool.{Bool, true, false, cond}
 use mathlib.Core.List.{List, ◌++◌, append_assoc}
-use Prim.Native.Nat.{ℕ, zero, suc, ◌+◌, ◌≤◌, ◌<◌, min}
+use Prim.Native.Nat.{ℕ, zero, suc, ◌+◌, ◌≤◌, min}
 use native.Mathlib.Omega.{arith}
 use native.Mathlib.Numerals.{add-one}
 use borrow.Author.Tests.{eq-eqb, ne_eqb, leb-true}
 use lib.Dec.{leb, eqb}
 use lib.ListN.{length, get_or, take, drop, replicate, length-append, length-replicate, take-append-drop}
 use lib.Seq.{length-take-le, drop-append-le, take_at, drop_at}
-use Rattle.base.specs.Checks.{side_limit, plain, leaves}
+use Rattle.base.specs.Checks.{after, leaves}
 use Rattle.base.specs.Lists.{over}
 use Rattle.base.specs.Sets.{sum_below, one_if}
 use Rattle.base.specs.declared.Refusal.{Refusal}
-use Rattle.base.specs.declared.Checked.{Checked}
 use Rattle.base.proofs.Checks.{pass, stop, last-pass, both-passed, length-passed}
-use Rattle.base.proofs.Lists.{part-long}
 use Rattle.base.proofs.Sets.{sum-suc}
-use Rattle.mask.specs.Mask.{in_mask, words_needed, shape_check, length_check, IsMask}
+use Rattle.mask.specs.Mask.{in_mask, words_needed, shape_check, length_check}
 use Rattle.mask.proofs.Masks.{mask-cong}
 use Rattle.graph.specs.Network.{Network, linked, seeded, in_region, in_frontier, region_words, frontier_words}
 use Rattle.graph.proofs.Distances.{exactly-zero}
 use Rattle.graph.proofs.Networks.{regrow-region, regrow-frontier, region-cap, frontier-cap}
 use Rattle.growth.specs.Lent.{masks_room, region_left, frontier_left, scratch_left}
-use Rattle.growth.proofs.Lent.{region-length, frontier-length, region_is}
-use Rattle.region.specs.Growth.{grow_answer}
-use Rattle.region.specs.declared.RegionGrown.{RegionGrown}
-use Rattle.region.specs.declared.AbtmRegionGrowthStats.{AbtmRegionGrowthStats}
-use Rattle.field_region.specs.Growth.{field_grow_answer}
-use Rattle.field_region.specs.declared.FieldGrown.{FieldGrown}
-use Rattle.field_region.specs.declared.FieldAwareRegionStats.{FieldAwareRegionStats}
+use Rattle.growth.proofs.Lent.{region-length, frontier-length}
+use Rattle.region.specs.Growth.{grow_check}
+use Rattle.field_region.specs.Growth.{field_grow_check}
 use Rattle.growths.specs.Runs.{largest, Ground, check_of}
 use Rattle.growths.specs.Counts.{takes, accepted_in, total_in, last_in, ran_of, counted_by, seeds_after, region_once_grown, frontier_once_grown, scratch_once_grown}
 use Rattle.growths.specs.declared.Ran.{Ran}
-use Rattle.growths.proofs.Grounds.{Solid, region-accepted}
+use Rattle.growths.specs.Solid.{Solid}
+use Rattle.growths.proofs.Grounds.{region-accepted}
 
 -- ---- what an answer says of the checks
 
-pub grown-accepted : (check : Checked) (g : Network) (seeds : List ℕ) (h : ℕ) (s : AbtmRegionGrowthStats) → grow_answer check g seeds h ≡ RegionGrown.Grown s → check ≡ Checked.Accepted
-grown-accepted Checked.Accepted g seeds h s e = refl
-grown-accepted (Checked.Refused r) g seeds h s e = let z : ◌≡◌ {A = ℕ} 0 1 = cc in absurd (omega arith)
-
-pub grown-refused : (check : Checked) (g : Network) (seeds : List ℕ) (h : ℕ) (r : Refusal) → grow_answer check g seeds h ≡ RegionGrown.Refused r → check ≡ Checked.Refused r
-grown-refused Checked.Accepted g seeds h r e = let z : ◌≡◌ {A = ℕ} 0 1 = cc in absurd (omega arith)
-grown-refused (Checked.Refused q) g seeds h r e = cc
-
-pub field-accepted : (check : Checked) (g : Network) (seeds : List ℕ) (h : ℕ) (s : FieldAwareRegionStats) → field_grow_answer check g seeds h ≡ FieldGrown.Grown s → check ≡ Checked.Accepted
-field-accepted Checked.Accepted g seeds h s e = refl
-field-accepted (Checked.Refused r) g seeds h s e = let z : ◌≡◌ {A = ℕ} 0 1 = cc in absurd (omega arith)
-
-pub field-refused : (check : Checked) (g : Network) (seeds : List ℕ) (h : ℕ) (r : Refusal) → field_grow_answer check g seeds h ≡ FieldGrown.Refused r → check ≡ Checked.Refused r
-field-refused Checked.Accepted g seeds h r e = let z : ◌≡◌ {A = ℕ} 0 1 = cc in absurd (omega arith)
-field-refused (Checked.Refused q) g seeds h r e = cc
+pub taken : (check : Check) (r : Bool) → r ≡ after check true (λ x. false) → r ≡ true → check ≡ Ok tt
+taken (Ok tt) r e t = refl
+taken (Err q) r e t = cc
 
 -- what a call left, accepted and refused
-pub left-new : {A : Type 0} (check : Checked) (new old x : A) → check ≡ Checked.Accepted → x ≡ leaves check new old → x ≡ new
-left-new check new old x e h = h ∙ ap (λ (t : Checked). leaves t new old) e
+pub left-new : {A : Type 0} (check : Check) (new old x : A) → check ≡ Ok tt → x ≡ leaves check new old → x ≡ new
+left-new check new old x e h = h ∙ ap (λ (t : Check). leaves t new old) e
 
-pub left-old : {A : Type 0} (check : Checked) (r : Refusal) (new old x : A) → check ≡ Checked.Refused r → x ≡ leaves check new old → x ≡ old
-left-old check r new old x e h = h ∙ ap (λ (t : Checked). leaves t new old) e
+pub left-old : {A : Type 0} (check : Check) (r : Refusal) (new old x : A) → check ≡ Err r → x ≡ leaves check new old → x ≡ old
+left-old check r new old x e h = h ∙ ap (λ (t : Check). leaves t new old) e
 
 -- ---- the region's own words, after an accepted growth: they are the next seeds
 
-module _ (g : Network) (seeds : List ℕ) (h : ℕ) (check : Checked) (lent left : List ℕ) (ok : check ≡ Checked.Accepted) (e : left ≡ region_left check g seeds h lent) (own : length seeds ≡ words_needed g.nodes) where
+module _ (g : Network) (seeds : List ℕ) (h : ℕ) (check : Check) (lent left : List ℕ) (ok : check ≡ Ok tt) (e : left ≡ region_left check g seeds h lent) (own : length seeds ≡ words_needed g.nodes) where
   pub own_is : left ≡ over (region_words g seeds h) lent
   own_is = left-new check (over (region_words g seeds h) lent) lent left ok e
 
@@ -74,11 +60,6 @@ module _ (g : Network) (seeds : List ℕ) (h : ℕ) (check : Checked) (lent left
 
   pub own-needed : length seeds ≡ length (take (length seeds) left)
   own-needed = own ∙ sym (region-length g seeds h) ∙ ap length (sym own-take)
-
-  pub own-mask : (n : ℕ) → n ≡ g.nodes → n ≤ side_limit → IsMask n (take (length seeds) left)
-  own-mask n same small =
-      let l : g.nodes ≤ side_limit = omega (arith, same, small) in
-      subst (λ (m : ℕ). IsMask m (take (length seeds) left)) (sym same) (subst (IsMask g.nodes) (sym own-take) (region_is g seeds h l))
 
 -- ---- with no hop, the frontier is the region
 
@@ -104,11 +85,6 @@ over-either false X Y l e = over-over X Y l e
 module _ (X Y lent held : List ℕ) (b : Bool) (part : ℕ) (same : length X ≡ length Y) (e : held ≡ cond b lent (over Y lent)) (fits : length X ≤ part) (room : part ≤ length held) where
   again : over X (take part held) ++ drop part held ≡ over X lent
   again = over-part X held part fits room ∙ ap (over X) e ∙ over-either b X Y lent same
-
-  again-long : length held ≡ length lent → length (over X (take part held) ++ drop part held) ≡ length lent
-  again-long l =
-      let w : length X ≤ length lent = omega arith in
-      ap length again ∙ part-long X X lent (length X) refl refl w
 
 -- ---- the counts, one growth more
 
@@ -153,7 +129,6 @@ ran-none needed hops rooms shortest = refl
 -- ---- what holds after i growths
 
 pub record Turn (needed : ℕ) (g : Network) (hops rooms : List ℕ) (shortest : ℕ) (first region₀ frontier₀ scratch₀ : List ℕ) (i : ℕ) (ran : Ran) (seeds region frontier scratch : List ℕ) : Type 0 where
-  pub within : i ≤ length hops
   pub counts : ran ≡ ran_of needed hops rooms shortest i
   pub few : ran.accepted ≤ i
   pub none : ran.accepted ≡ 0 → ran.total ≡ 0
@@ -161,16 +136,11 @@ pub record Turn (needed : ℕ) (g : Network) (hops rooms : List ℕ) (shortest :
   pub inside : region ≡ region_once_grown g ran first region₀
   pub edge : frontier ≡ frontier_once_grown g ran first frontier₀
   pub spent : scratch ≡ scratch_once_grown g ran scratch₀
-  pub seeds_long : length seeds ≡ length first
-  pub region_long : length region ≡ length region₀
-  pub frontier_long : length frontier ≡ length frontier₀
-  pub scratch_long : length scratch ≡ length scratch₀
 
 pub turn-none : (needed : ℕ) (g : Network) (hops rooms : List ℕ) (shortest : ℕ) (first region frontier scratch : List ℕ)
     → Turn needed g hops rooms shortest first region frontier scratch 0 (record { accepted = 0; total = 0; last = 0 }) first region frontier scratch
 turn-none needed g hops rooms shortest first region frontier scratch =
     record {
-      within = omega arith;
       counts = ran-none needed hops rooms shortest;
       few = omega arith;
       none = λ e. refl;
@@ -178,10 +148,6 @@ turn-none needed g hops rooms shortest first region frontier scratch =
       inside = refl;
       edge = refl;
       spent = refl;
-      seeds_long = refl;
-      region_long = refl;
-      frontier_long = refl;
-      scratch_long = refl;
     }
 
 turn-as : (needed : ℕ) (g : Network) (hops rooms : List ℕ) (shortest : ℕ) (first region₀ frontier₀ scratch₀ : List ℕ) (i : ℕ) (ran : Ran) (seeds region frontier scratch : List ℕ) (ran' : Ran) (seeds' region' frontier' scratch' : List ℕ)
@@ -196,23 +162,31 @@ turn-as needed g hops rooms shortest first region₀ frontier₀ scratch₀ i ra
     (subst (λ (l : List ℕ). Turn needed g hops rooms shortest first region₀ frontier₀ scratch₀ i ran seeds region frontier l) (sym ez) t))))
 
 -- a list of just the needed length is long enough for the three masks, and a shorter one is not
-pub room-enough : (n p : ℕ) → leb (words_needed n) p ≡ true → masks_room n p p p ≡ Checked.Accepted
+pub room-enough : (n p : ℕ) → leb (words_needed n) p ≡ true → masks_room n p p p ≡ Ok tt
 unfolding masks_room
 room-enough n p e = sym (pass _ _ _ _ e (pass _ _ _ _ e (last-pass _ _ _ e refl)))
 
-pub room-short : (n p : ℕ) → leb (words_needed n) p ≡ false → masks_room n p p p ≡ Checked.Refused (plain 25)
+pub room-short : (n p : ℕ) → leb (words_needed n) p ≡ false → masks_room n p p p ≡ Err ListTooShort
 unfolding masks_room
 room-short n p e = sym (stop _ _ _ _ e refl)
 
 -- the length that accepted seeds have, and how many words
-pub seeds-len : (side len : ℕ) (words : List ℕ) → length_check side len words ≡ Checked.Accepted → len ≡ side
+pub seeds-len : (side len : ℕ) (words : List ℕ) → length_check side len words ≡ Ok tt → len ≡ side
 unfolding length_check
 seeds-len side len words e = length-passed side len (both-passed _ _ e).0
 
-pub seeds-words : (side len : ℕ) (words : List ℕ) → length_check side len words ≡ Checked.Accepted → length words ≡ words_needed side
+pub seeds-words : (side len : ℕ) (words : List ℕ) → length_check side len words ≡ Ok tt → length words ≡ words_needed side
 unfolding length_check shape_check
 seeds-words side len words e =
     length-passed _ _ (both-passed _ _ (both-passed _ _ e).1).0 ∙ ap words_needed (seeds-len side len words e)
+
+pub plain-own : (topology : Check) (nrows ncols len : ℕ) (seeds region frontier scratch : List ℕ) → grow_check topology nrows ncols len seeds region frontier scratch ≡ Ok tt → length seeds ≡ words_needed nrows
+unfolding grow_check
+plain-own topology nrows ncols len seeds region frontier scratch e = seeds-words nrows len seeds (both-passed _ _ (both-passed _ _ (both-passed _ _ e).1).1).0
+
+pub field-own : (topology square : Check) (total len : ℕ) (seeds region frontier scratch : List ℕ) → field_grow_check topology square total len seeds region frontier scratch ≡ Ok tt → length seeds ≡ words_needed total
+unfolding field_grow_check
+field-own topology square total len seeds region frontier scratch e = seeds-words total len seeds (both-passed _ _ (both-passed _ _ (both-passed _ _ e).1).1).0
 
 pub some : {A : Type 0} (n : ℕ) (x y : A) → 1 ≤ n → cond (eqb n 0) x y ≡ y
 some n x y l = ap (λ (b : Bool). cond b x y) (ne_eqb n 0 (λ e. omega arith))
@@ -226,20 +200,20 @@ grown-none n new old e = sym (no_more n old new e)
 pub grown-some : {A : Type 0} (n : ℕ) (new old : A) → (n ≡ 0 → ⊥) → new ≡ cond (eqb n 0) old new
 grown-some n new old d = ap (λ (b : Bool). cond b old new) (sym (ne_eqb n 0 d))
 
-module _ (side len : ℕ) (k : Ground) (solid : Solid side len k) (hops rooms : List ℕ) (shortest : ℕ) (first region₀ frontier₀ scratch₀ : List ℕ) (ok : length_check side len first ≡ Checked.Accepted)
-    (i : ℕ) (ran : Ran) (seeds region frontier scratch : List ℕ) (t : Turn (words_needed side) k.network hops rooms shortest first region₀ frontier₀ scratch₀ i ran seeds region frontier scratch) where
+module _ (side len : ℕ) (k : Ground) (solid : Solid side len k) (hops rooms : List ℕ) (shortest : ℕ) (first region₀ frontier₀ scratch₀ : List ℕ) (ok : length_check side len first ≡ Ok tt)
+    (i : ℕ) (ran : Ran) (seeds region frontier scratch : List ℕ) (t : Turn (words_needed k.network.nodes) k.network hops rooms shortest first region₀ frontier₀ scratch₀ i ran seeds region frontier scratch) where
   abbrev g : Network
   g = k.network
 
   -- the seeds are accepted ones all along
-  pub turn-seeds : length_check side len seeds ≡ Checked.Accepted
+  pub turn-seeds : length_check side len seeds ≡ Ok tt
   turn-seeds = go ran.accepted refl
     where
-      go : (n : ℕ) → ran.accepted ≡ n → length_check side len seeds ≡ Checked.Accepted
-      go zero e = subst (λ (w : List ℕ). length_check side len w ≡ Checked.Accepted) (sym (t.renewed ∙ no_more ran.accepted _ _ e)) ok
+      go : (n : ℕ) → ran.accepted ≡ n → length_check side len seeds ≡ Ok tt
+      go zero e = subst (λ (w : List ℕ). length_check side len w ≡ Ok tt) (sym (t.renewed ∙ no_more ran.accepted _ _ e)) ok
       go (suc n) e =
           let l : 1 ≤ ran.accepted = omega arith in
-          subst (λ (w : List ℕ). length_check side len w ≡ Checked.Accepted) (sym (t.renewed ∙ some ran.accepted _ _ l)) (region-accepted side len k solid first ran.total)
+          subst (λ (w : List ℕ). length_check side len w ≡ Ok tt) (sym (t.renewed ∙ some ran.accepted _ _ l)) (region-accepted side len k solid first ran.total)
 
   -- from the seeds as from the first ones, by the total
   grow-region : (h : ℕ) → region_words g seeds h ≡ region_words g first (min (ran.total + h) largest)
@@ -287,18 +261,17 @@ module _ (side len : ℕ) (k : Ground) (solid : Solid side len k) (hops rooms : 
           grow-frontier h l ∙ sym (some h _ _ l)
 
   -- growth i, lent the first `part` words of each list
-  module _ (part : ℕ) (below : i < length hops) (is-part : part ≡ min (get_or rooms i 0) shortest) (region_room : part ≤ length region) (frontier_room : part ≤ length frontier) (scratch_room : part ≤ length scratch) where
+  module _ (part : ℕ) (is-part : part ≡ min (get_or rooms i 0) shortest) (region_room : part ≤ length region) (frontier_room : part ≤ length frontier) (scratch_room : part ≤ length scratch) where
     abbrev h : ℕ
     h = get_or hops i 0
 
     abbrev zeros : List ℕ
     zeros = replicate (words_needed g.nodes) 0
 
-    accepted-turn : takes (words_needed side) rooms shortest i ≡ true
-        → Turn (words_needed side) g hops rooms shortest first region₀ frontier₀ scratch₀ (i + 1) (counted_by ran h) (region_words g seeds h) (over (region_words g seeds h) (take part region) ++ drop part region) (over (frontier_words g seeds h) (take part frontier) ++ drop part frontier) (over zeros (take part scratch) ++ drop part scratch)
+    accepted-turn : takes (words_needed g.nodes) rooms shortest i ≡ true
+        → Turn (words_needed g.nodes) g hops rooms shortest first region₀ frontier₀ scratch₀ (i + 1) (counted_by ran h) (region_words g seeds h) (over (region_words g seeds h) (take part region) ++ drop part region) (over (frontier_words g seeds h) (take part frontier) ++ drop part frontier) (over zeros (take part scratch) ++ drop part scratch)
     accepted-turn e =
-        let n : words_needed g.nodes ≡ words_needed side = ap words_needed solid.nodes in
-        let fits : words_needed g.nodes ≤ part = omega (arith, n, is-part, leb-true (words_needed side) (min (get_or rooms i 0) shortest) e) in
+        let fits : words_needed g.nodes ≤ part = omega (arith, is-part, leb-true (words_needed g.nodes) (min (get_or rooms i 0) shortest) e) in
         let one : 1 ≤ ran.accepted + 1 = omega arith in
         let fits-region : length (region_words g seeds h) ≤ part = omega (arith, fits, region-length g seeds h) in
         let fits-frontier : length (frontier_words g seeds h) ≤ part = omega (arith, fits, frontier-length g seeds h) in
@@ -306,8 +279,7 @@ module _ (side len : ℕ) (k : Ground) (solid : Solid side len k) (hops rooms : 
         let same_region : length (region_words g seeds h) ≡ length (region_words g first ran.total) = region-length g seeds h ∙ sym (region-length g first ran.total) in
         let same_frontier : length (frontier_words g seeds h) ≡ length (edge_words ran.last ran.total) = frontier-length g seeds h ∙ sym (edge-length ran.last ran.total) in
         record {
-          within = omega arith;
-          counts = ap (λ (r : Ran). counted_by r h) t.counts ∙ ran-more (words_needed side) hops rooms shortest i e;
+          counts = ap (λ (r : Ran). counted_by r h) t.counts ∙ ran-more (words_needed g.nodes) hops rooms shortest i e;
           few = omega (arith, t.few);
           none = λ z. absurd (omega arith);
           renewed = grow-region h ∙ sym (some (ran.accepted + 1) _ _ one);
@@ -316,38 +288,30 @@ module _ (side len : ℕ) (k : Ground) (solid : Solid side len k) (hops rooms : 
           edge = again (frontier_words g seeds h) (edge_words ran.last ran.total) frontier₀ frontier (eqb ran.accepted 0) part same_frontier t.edge fits-frontier frontier_room
               ∙ ap (λ (w : List ℕ). over w frontier₀) (grow-edge h) ∙ sym (some (ran.accepted + 1) _ _ one);
           spent = again zeros zeros scratch₀ scratch (eqb ran.accepted 0) part refl t.spent fits-zeros scratch_room ∙ sym (some (ran.accepted + 1) _ _ one);
-          seeds_long = region-length g seeds h ∙ n ∙ sym (seeds-words side len first ok);
-          region_long = again-long (region_words g seeds h) (region_words g first ran.total) region₀ region (eqb ran.accepted 0) part same_region t.inside fits-region region_room t.region_long;
-          frontier_long = again-long (frontier_words g seeds h) (edge_words ran.last ran.total) frontier₀ frontier (eqb ran.accepted 0) part same_frontier t.edge fits-frontier frontier_room t.frontier_long;
-          scratch_long = again-long zeros zeros scratch₀ scratch (eqb ran.accepted 0) part refl t.spent fits-zeros scratch_room t.scratch_long;
         }
 
-    refused-turn : takes (words_needed side) rooms shortest i ≡ false
-        → Turn (words_needed side) g hops rooms shortest first region₀ frontier₀ scratch₀ (i + 1) ran seeds (take part region ++ drop part region) (take part frontier ++ drop part frontier) (take part scratch ++ drop part scratch)
+    refused-turn : takes (words_needed g.nodes) rooms shortest i ≡ false
+        → Turn (words_needed g.nodes) g hops rooms shortest first region₀ frontier₀ scratch₀ (i + 1) ran seeds (take part region ++ drop part region) (take part frontier ++ drop part frontier) (take part scratch ++ drop part scratch)
     refused-turn e =
         record {
-          within = omega arith;
-          counts = t.counts ∙ ran-less (words_needed side) hops rooms shortest i e;
+          counts = t.counts ∙ ran-less (words_needed g.nodes) hops rooms shortest i e;
           few = omega (arith, t.few);
           none = t.none;
           renewed = t.renewed;
           inside = take-append-drop part region ∙ t.inside;
           edge = take-append-drop part frontier ∙ t.edge;
           spent = take-append-drop part scratch ∙ t.spent;
-          seeds_long = t.seeds_long;
-          region_long = ap length (take-append-drop part region) ∙ t.region_long;
-          frontier_long = ap length (take-append-drop part frontier) ∙ t.frontier_long;
-          scratch_long = ap length (take-append-drop part scratch) ∙ t.scratch_long;
         }
 
     -- by its check, which is the room's
-    module _ (check : Checked) (checked : check ≡ check_of k seeds (record { hops = h; region = take part region; frontier = take part frontier; scratch = take part scratch })) where
-      check-is : check ≡ masks_room side part part part
+    module _ (check : Check) (checked : check ≡ check_of k seeds (record { hops = h; region = take part region; frontier = take part frontier; scratch = take part scratch })) where
+      check-is : check ≡ masks_room g.nodes part part part
       check-is =
           checked
           ∙ solid.room seeds turn-seeds (record { hops = h; region = take part region; frontier = take part frontier; scratch = take part scratch })
           ∙ ap₂ (λ (a b : ℕ). masks_room side a b (length (take part scratch))) (length-take-le part region region_room) (length-take-le part frontier frontier_room)
           ∙ ap (masks_room side part part) (length-take-le part scratch scratch_room)
+          ∙ ap (λ (n : ℕ). masks_room n part part part) (sym solid.nodes)
 
       pub turn : (ran' : Ran) (seeds' region' frontier' scratch' : List ℕ)
           → ran' ≡ leaves check (counted_by ran h) ran
@@ -355,16 +319,16 @@ module _ (side len : ℕ) (k : Ground) (solid : Solid side len k) (hops rooms : 
           → region' ≡ region_left check g seeds h (take part region)
           → frontier' ≡ frontier_left check g seeds h (take part frontier)
           → scratch' ≡ scratch_left check g.nodes (take part scratch)
-          → Turn (words_needed side) g hops rooms shortest first region₀ frontier₀ scratch₀ (i + 1) ran' seeds' (region' ++ drop part region) (frontier' ++ drop part frontier) (scratch' ++ drop part scratch)
-      turn ran' seeds' region' frontier' scratch' er es eg ef ez = go (takes (words_needed side) rooms shortest i) refl
+          → Turn (words_needed g.nodes) g hops rooms shortest first region₀ frontier₀ scratch₀ (i + 1) ran' seeds' (region' ++ drop part region) (frontier' ++ drop part frontier) (scratch' ++ drop part scratch)
+      turn ran' seeds' region' frontier' scratch' er es eg ef ez = go (takes (words_needed g.nodes) rooms shortest i) refl
         where
-          go : (b : Bool) → takes (words_needed side) rooms shortest i ≡ b
-              → Turn (words_needed side) g hops rooms shortest first region₀ frontier₀ scratch₀ (i + 1) ran' seeds' (region' ++ drop part region) (frontier' ++ drop part frontier) (scratch' ++ drop part scratch)
+          go : (b : Bool) → takes (words_needed g.nodes) rooms shortest i ≡ b
+              → Turn (words_needed g.nodes) g hops rooms shortest first region₀ frontier₀ scratch₀ (i + 1) ran' seeds' (region' ++ drop part region) (frontier' ++ drop part frontier) (scratch' ++ drop part scratch)
           go true e =
-              let a : check ≡ Checked.Accepted = check-is ∙ room-enough side part (ap (leb (words_needed side)) is-part ∙ e) in
+              let a : check ≡ (Ok tt) = check-is ∙ room-enough g.nodes part (ap (leb (words_needed g.nodes)) is-part ∙ e) in
               turn-as _ _ _ _ _ _ _ _ _ _ _ _ _ _ _ _ _ _ _ _ (left-new _ _ _ _ a er) (left-new _ _ _ _ a es) (ap (λ (l : List ℕ). l ++ drop part region) (left-new _ _ _ _ a eg)) (ap (λ (l : List ℕ). l ++ drop part frontier) (left-new _ _ _ _ a ef)) (ap (λ (l : List ℕ). l ++ drop part scratch) (left-new _ _ _ _ a ez))
               (accepted-turn e)
           go false e =
-              let a : check ≡ Checked.Refused (plain 25) = check-is ∙ room-short side part (ap (leb (words_needed side)) is-part ∙ e) in
+              let a : check ≡ Err ListTooShort = check-is ∙ room-short g.nodes part (ap (leb (words_needed g.nodes)) is-part ∙ e) in
               turn-as _ _ _ _ _ _ _ _ _ _ _ _ _ _ _ _ _ _ _ _ (left-old _ _ _ _ _ a er) (left-old _ _ _ _ _ a es) (ap (λ (l : List ℕ). l ++ drop part region) (left-old _ _ _ _ _ a eg)) (ap (λ (l : List ℕ). l ++ drop part frontier) (left-old _ _ _ _ _ a ef)) (ap (λ (l : List ℕ). l ++ drop part scratch) (left-old _ _ _ _ _ a ez))
               (refused-turn e)

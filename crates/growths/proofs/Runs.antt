@@ -1,5 +1,7 @@
 -- A list of growths comes to what one growth by the total does. Assumes nothing.
 use mathlib.Core.Path.{◌≡◌, refl, sym, ap, ap₂, ◌∙◌, subst}
+use Rattle.std.specs.Prelude.{Ok, Err}
+use Rattle.base.specs.Checks.{Check}
 use mathlib.Core.List.{List, [], ◌∷◌}
 use Prim.Native.Nat.{ℕ, zero, suc, ◌+◌, ◌≤◌, min}
 use native.Mathlib.Omega.{arith}
@@ -8,7 +10,6 @@ use lib.Seq.{take_at}
 use Rattle.base.specs.Checks.{leaves}
 use Rattle.base.specs.Lists.{over}
 use Rattle.base.specs.declared.Refusal.{Refusal}
-use Rattle.base.specs.declared.Checked.{Checked}
 use Rattle.mask.specs.Mask.{words_needed}
 use Rattle.graph.specs.Network.{Network, region_words, frontier_words}
 use Rattle.graph.proofs.Networks.{Whole, regrow-region, regrow-frontier, region-cap, frontier-cap}
@@ -23,14 +24,14 @@ module _ (k : Ground) where
   own-over words lent e = take_at words (drop (length words) lent) (words_needed g.nodes) e
 
   -- the masks that an accepted growth leaves
-  pub region-left : (seeds : List ℕ) (c : Growth) → check_of k seeds c ≡ Checked.Accepted → region_of k seeds c ≡ region_words g seeds c.hops
+  pub region-left : (seeds : List ℕ) (c : Growth) → check_of k seeds c ≡ Ok tt → region_of k seeds c ≡ region_words g seeds c.hops
   region-left seeds c e =
-      ap (λ (t : Checked). own k (leaves t (over (region_words g seeds c.hops) c.region) c.region)) e
+      ap (λ (t : Check). own k (leaves t (over (region_words g seeds c.hops) c.region) c.region)) e
       ∙ own-over (region_words g seeds c.hops) c.region (region-length g seeds c.hops)
 
-  pub frontier-left : (seeds : List ℕ) (c : Growth) → check_of k seeds c ≡ Checked.Accepted → frontier_of k seeds c ≡ frontier_words g seeds c.hops
+  pub frontier-left : (seeds : List ℕ) (c : Growth) → check_of k seeds c ≡ Ok tt → frontier_of k seeds c ≡ frontier_words g seeds c.hops
   frontier-left seeds c e =
-      ap (λ (t : Checked). own k (leaves t (over (frontier_words g seeds c.hops) c.frontier) c.frontier)) e
+      ap (λ (t : Check). own k (leaves t (over (frontier_words g seeds c.hops) c.frontier) c.frontier)) e
       ∙ own-over (frontier_words g seeds c.hops) c.frontier (frontier-length g seeds c.hops)
 
   state : List ℕ → List ℕ → Run → Growth → Run
@@ -39,15 +40,15 @@ module _ (k : Ground) where
   went : Run → Growth → Run
   went st c = state (region_words g st.seeds c.hops) (frontier_words g st.seeds c.hops) st c
 
-  grown-accepted : (st : Run) (c : Growth) → check_of k st.seeds c ≡ Checked.Accepted → grown k st c ≡ went st c
+  grown-accepted : (st : Run) (c : Growth) → check_of k st.seeds c ≡ Ok tt → grown k st c ≡ went st c
   unfolding grown state went
   grown-accepted st c e =
-      ap (λ (t : Checked). leaves t (state (region_of k st.seeds c) (frontier_of k st.seeds c) st c) st) e
+      ap (λ (t : Check). leaves t (state (region_of k st.seeds c) (frontier_of k st.seeds c) st c) st) e
       ∙ ap₂ (λ (r f : List ℕ). state r f st c) (region-left st.seeds c e) (frontier-left st.seeds c e)
 
-  grown-refused : (st : Run) (c : Growth) (r : Refusal) → check_of k st.seeds c ≡ Checked.Refused r → grown k st c ≡ st
+  grown-refused : (st : Run) (c : Growth) (r : Refusal) → check_of k st.seeds c ≡ Err r → grown k st c ≡ st
   unfolding grown state
-  grown-refused st c r e = ap (λ (t : Checked). leaves t (state (region_of k st.seeds c) (frontier_of k st.seeds c) st c) st) e
+  grown-refused st c r e = ap (λ (t : Check). leaves t (state (region_of k st.seeds c) (frontier_of k st.seeds c) st c) st) e
 
   -- what holds of a list of growths from the first seeds, all along
   pub record Holds (first : List ℕ) (st : Run) : Type 0 where
@@ -85,9 +86,9 @@ module _ (k : Ground) where
   pub holds_grown : (first : List ℕ) (st : Run) (c : Growth) → Holds first st → Holds first (grown k st c)
   holds_grown first st c h = go (check_of k st.seeds c) refl
     where
-      go : (t : Checked) → check_of k st.seeds c ≡ t → Holds first (grown k st c)
-      go Checked.Accepted e = subst (Holds first) (sym (grown-accepted st c e)) (holds_went first st c h)
-      go (Checked.Refused r) e = subst (Holds first) (sym (grown-refused st c r e)) h
+      go : (t : Check) → check_of k st.seeds c ≡ t → Holds first (grown k st c)
+      go (Ok tt) e = subst (Holds first) (sym (grown-accepted st c e)) (holds_went first st c h)
+      go (Err r) e = subst (Holds first) (sym (grown-refused st c r e)) h
 
   holds_from : (first : List ℕ) (st : Run) (cs : List Growth) → Holds first st → Holds first (run k st cs)
   unfolding run
@@ -99,7 +100,7 @@ module _ (k : Ground) where
 
   -- one accepted growth by the total, or by the largest count, leaves what the list has come to
   module _ (whole : Whole g) (few : g.blocks ≤ largest) (first : List ℕ) (cs : List Growth) (d : Growth) (some : 1 ≤ (run k (begun first) cs).accepted) (by_total : d.hops ≡ min (run k (begun first) cs).total largest)
-      (fits : check_of k first d ≡ Checked.Accepted) where
+      (fits : check_of k first d ≡ Ok tt) where
     abbrev st : Run
     st = run k (begun first) cs
 

@@ -1,8 +1,8 @@
 -- A list of growths, refused ones included, each seeded with the region that the last accepted one gave or, before any, with the first seeds. What
 -- a growth answers and leaves is what its promise cites: grow_check or field_grow_check, region_left, frontier_left, over the lists it is lent.
 use Rattle.std.specs.Prelude.{Bool, List, [], ◌∷◌, ℕ, ◌+◌, ◌-◌, ◌^◌, take}
+use Rattle.base.specs.Checks.{Check}
 use Rattle.base.specs.Checks.{leaves}
-use Rattle.base.specs.declared.Checked.{Checked}
 use Rattle.mask.specs.Mask.{words_needed}
 use Rattle.dof_layout.specs.Layout.{total_of}
 use Rattle.graph.specs.Network.{Network, plain_network, field_network}
@@ -24,14 +24,14 @@ pub record Growth : Type 0 where
 -- what all growths of a list share: the network, and the checks of one growth, by its seeds and the lists that it is lent
 pub record Ground : Type 0 where
   pub network : Network
-  pub check : List ℕ → List ℕ → List ℕ → List ℕ → Checked
+  pub check : List ℕ → List ℕ → List ℕ → List ℕ → Check
 
 -- all as plain growths
-abbrev pub plain_ground : Checked → ℕ → (ℕ → ℕ → Bool) → ℕ → Ground
+abbrev pub plain_ground : Check → ℕ → (ℕ → ℕ → Bool) → ℕ → Ground
 plain_ground topology side s len = record { network = plain_network side s; check = grow_check topology side side len }
 
 -- all as field growths under one layout
-abbrev pub field_ground : Checked → Checked → List ℕ → (ℕ → ℕ → Bool) → ℕ → Ground
+abbrev pub field_ground : Check → Check → List ℕ → (ℕ → ℕ → Bool) → ℕ → Ground
 field_ground topology square components s len =
     record { network = field_network components s; check = field_grow_check topology square (total_of components) len }
 
@@ -51,7 +51,7 @@ module _ (k : Ground) where
   abbrev pub own : List ℕ → List ℕ
   own words = take (words_needed k.network.nodes) words
 
-  abbrev pub check_of : List ℕ → Growth → Checked
+  abbrev pub check_of : List ℕ → Growth → Check
   check_of seeds c = k.check seeds c.region c.frontier c.scratch
 
   -- the two masks that a growth leaves

@@ -9,7 +9,9 @@ ghost use Rattle.hybit_matrix.specs.Flat.{flat_of_checked, flat_of_truth, flat_o
 ghost use Rattle.hybit_matrix.specs.FlatTopology.{flat_of_dual_stated, flat_of_topology_built, flat_of_column, flat_of_word, side_of_name};
 
 use crate::{Answer, PairAnswer};
-use dual_topology::{DualStated, RowColumn, RowOf, RowWord, TopologyBuilt};
+use base::Refusal;
+use dual_topology::{AbtmDualTopologyStats, RowOf, TopologyCounts};
+use word::AbtmTopologyWord;
 
 // Counts, bytes and the ratio; all 0 on a refusal.
 #[repr(C)]
@@ -41,11 +43,12 @@ pub struct BuildAnswer {
     pub pairs: u64,
 }
 
-fn flat_dual_stated(s: DualStated) -> DualStatsAnswer
+#[tactic(auto, unfolding(crate::specs::FlatTopology::flat_of_dual_stated))]
+fn flat_dual_stated(s: Result<AbtmDualTopologyStats, Refusal>) -> DualStatsAnswer
     ensures { result ≡ flat_of_dual_stated s }
 {
     match s {
-        DualStated::Stats(x) => DualStatsAnswer {
+        Ok(x) => DualStatsAnswer {
             number: 0,
             present: true,
             expected: 0,
@@ -58,11 +61,11 @@ fn flat_dual_stated(s: DualStated) -> DualStatsAnswer
             total_metadata_bytes: x.total_metadata_bytes(),
             metadata_bytes_per_nnz: x.metadata_bytes_per_nnz(),
         },
-        DualStated::Refused(r) => DualStatsAnswer {
-            number: r.number,
+        Err(r) => DualStatsAnswer {
+            number: r.number(),
             present: false,
-            expected: r.expected,
-            actual: r.actual,
+            expected: r.expected(),
+            actual: r.actual(),
             nrows: 0,
             ncols: 0,
             structural_nnz: 0,
@@ -74,11 +77,12 @@ fn flat_dual_stated(s: DualStated) -> DualStatsAnswer
     }
 }
 
-fn flat_topology_built(b: TopologyBuilt) -> BuildAnswer
+#[tactic(auto, unfolding(crate::specs::FlatTopology::flat_of_topology_built))]
+fn flat_topology_built(b: Result<TopologyCounts, Refusal>) -> BuildAnswer
     ensures { result ≡ flat_of_topology_built b }
 {
     match b {
-        TopologyBuilt::Built(x) => BuildAnswer {
+        Ok(x) => BuildAnswer {
             number: 0,
             present: true,
             expected: 0,
@@ -87,11 +91,11 @@ fn flat_topology_built(b: TopologyBuilt) -> BuildAnswer
             column_words: x.column_words,
             pairs: x.pairs,
         },
-        TopologyBuilt::Refused(r) => BuildAnswer {
-            number: r.number,
+        Err(r) => BuildAnswer {
+            number: r.number(),
             present: false,
-            expected: r.expected,
-            actual: r.actual,
+            expected: r.expected(),
+            actual: r.actual(),
             row_words: 0,
             column_words: 0,
             pairs: 0,
@@ -99,29 +103,31 @@ fn flat_topology_built(b: TopologyBuilt) -> BuildAnswer
     }
 }
 
-fn flat_column(a: RowColumn) -> Answer
+#[tactic(auto, unfolding(crate::specs::FlatTopology::flat_of_column))]
+fn flat_column(a: Result<Option<usize>, Refusal>) -> Answer
     ensures { result ≡ flat_of_column a }
 {
     match a {
-        RowColumn::At(c) => crate::answered_with(c),
-        RowColumn::Nothing => Answer {
+        Ok(Some(c)) => crate::answered_with(c as u64),
+        Ok(None) => Answer {
             number: 0,
             present: false,
             expected: 0,
             actual: 0,
             value: 0,
         },
-        RowColumn::Refused(r) => crate::refused_with(r),
+        Err(r) => crate::refused_with(r),
     }
 }
 
-fn flat_word(a: RowWord) -> PairAnswer
+#[tactic(auto, unfolding(crate::specs::FlatTopology::flat_of_word))]
+fn flat_word(a: Result<Option<AbtmTopologyWord>, Refusal>) -> PairAnswer
     ensures { result ≡ flat_of_word a }
 {
     match a {
-        RowWord::Word(w) => crate::layout::pair_with(w.word_index as u64, w.mask),
-        RowWord::Nothing => crate::layout::pair_none(),
-        RowWord::Refused(r) => crate::layout::pair_refused(r),
+        Ok(Some(w)) => crate::layout::pair_with(w.word_index as u64, w.mask),
+        Ok(None) => crate::layout::pair_none(),
+        Err(r) => crate::layout::pair_refused(r),
     }
 }
 

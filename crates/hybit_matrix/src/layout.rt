@@ -6,16 +6,16 @@ ghost use Rattle.hybit_matrix.specs.Flat.{flat_of_checked, flat_of_counted, flat
 
 use crate::{Answer, PairAnswer};
 use base::Refusal;
-use dof_layout::{Kinded, Located, Ranged};
+use dof_layout::{DofAddress, DofEntityKind, Range};
 
 pub(crate) fn pair_refused(r: Refusal) -> PairAnswer
     ensures { result ≡ pair_answer_refused r }
 {
     PairAnswer {
-        number: r.number,
+        number: r.number(),
         present: false,
-        expected: r.expected,
-        actual: r.actual,
+        expected: r.expected(),
+        actual: r.actual(),
         first: 0,
         second: 0,
     }
@@ -47,32 +47,35 @@ pub(crate) fn pair_none() -> PairAnswer
     }
 }
 
-fn flat_kinded(k: Kinded) -> Answer
+#[tactic(auto, unfolding(crate::specs::Flat::flat_of_kinded))]
+fn flat_kinded(k: Result<DofEntityKind, Refusal>) -> Answer
     ensures { result ≡ flat_of_kinded k }
 {
     match k {
-        Kinded::Kind(kind) => crate::answered_with(kind.code() as u64),
-        Kinded::Refused(r) => crate::refused_with(r),
+        Ok(kind) => crate::answered_with(kind.code() as u64),
+        Err(r) => crate::refused_with(r),
     }
 }
 
-fn flat_ranged(a: Ranged) -> PairAnswer
+#[tactic(auto, unfolding(crate::specs::Flat::flat_of_ranged))]
+fn flat_ranged(a: Result<Option<Range>, Refusal>) -> PairAnswer
     ensures { result ≡ flat_of_ranged a }
 {
     match a {
-        Ranged::Nodes(n) => pair_with(n.start, n.end),
-        Ranged::Nothing => pair_none(),
-        Ranged::Refused(r) => pair_refused(r),
+        Ok(Some(n)) => pair_with(n.start, n.end),
+        Ok(None) => pair_none(),
+        Err(r) => pair_refused(r),
     }
 }
 
-fn flat_located(a: Located) -> PairAnswer
+#[tactic(auto, unfolding(crate::specs::Flat::flat_of_located))]
+fn flat_located(a: Result<Option<DofAddress>, Refusal>) -> PairAnswer
     ensures { result ≡ flat_of_located a }
 {
     match a {
-        Located::At(address) => pair_with(address.block_index as u64, address.component as u64),
-        Located::Nothing => pair_none(),
-        Located::Refused(r) => pair_refused(r),
+        Ok(Some(address)) => pair_with(address.block_index as u64, address.component as u64),
+        Ok(None) => pair_none(),
+        Err(r) => pair_refused(r),
     }
 }
 

@@ -11,8 +11,8 @@ ghost use Rattle.mask.specs.Mask.{mask_check};
 ghost use Rattle.mask.specs.Answers.{new_check, new_words, from_check, from_words, empty_answer, count_answer, contains_answer, set_check, set_words, pair_check, combined_words, union, intersection, and_not_of, intersects_answer, indices_answer, indices_list, or_word_words};
 ghost use Rattle.hybit_matrix.specs.Flat.{answer_refused, answer_of_number, flat_of_checked, flat_of_truth, flat_of_counted, flat_of_ranked, flat_of_selected};
 
-use base::{Checked, Counted, Refusal, Truth};
-use word::{AbtmTopologyWord, Ranked, Selected};
+use base::Refusal;
+use word::AbtmTopologyWord;
 
 pub mod both_sides;
 pub mod layout;
@@ -49,10 +49,10 @@ fn refused_with(r: Refusal) -> Answer
     ensures { result ≡ answer_refused r }
 {
     Answer {
-        number: r.number,
+        number: r.number(),
         present: false,
-        expected: r.expected,
-        actual: r.actual,
+        expected: r.expected(),
+        actual: r.actual(),
         value: 0,
     }
 }
@@ -69,54 +69,59 @@ fn answered_with(value: u64) -> Answer
     }
 }
 
-fn flat_checked(c: Checked) -> Answer
+#[tactic(auto, unfolding(crate::specs::Flat::flat_of_checked))]
+fn flat_checked(c: Result<(), Refusal>) -> Answer
     ensures { result ≡ flat_of_checked c }
 {
     match c {
-        Checked::Accepted => answered_with(0),
-        Checked::Refused(r) => refused_with(r),
+        Ok(()) => answered_with(0),
+        Err(r) => refused_with(r),
     }
 }
 
-fn flat_truth(t: Truth) -> Answer
+#[tactic(auto, unfolding(crate::specs::Flat::flat_of_truth))]
+fn flat_truth(t: Result<bool, Refusal>) -> Answer
     ensures { result ≡ flat_of_truth t }
 {
     match t {
-        Truth::Is(yes) => {
+        Ok(yes) => {
             if yes {
                 answered_with(1)
             } else {
                 answered_with(0)
             }
         }
-        Truth::Refused(r) => refused_with(r),
+        Err(r) => refused_with(r),
     }
 }
 
-fn flat_counted(c: Counted) -> Answer
+#[tactic(auto, unfolding(crate::specs::Flat::flat_of_counted))]
+fn flat_counted(c: Result<u64, Refusal>) -> Answer
     ensures { result ≡ flat_of_counted c }
 {
     match c {
-        Counted::Count(n) => answered_with(n),
-        Counted::Refused(r) => refused_with(r),
+        Ok(n) => answered_with(n),
+        Err(r) => refused_with(r),
     }
 }
 
-fn flat_ranked(k: Ranked) -> Answer
+#[tactic(auto, unfolding(crate::specs::Flat::flat_of_ranked))]
+fn flat_ranked(k: Result<usize, Refusal>) -> Answer
     ensures { result ≡ flat_of_ranked k }
 {
     match k {
-        Ranked::At(n) => answered_with(n as u64),
-        Ranked::Refused(r) => refused_with(r),
+        Ok(n) => answered_with(n as u64),
+        Err(r) => refused_with(r),
     }
 }
 
-fn flat_selected(s: Selected) -> Answer
+#[tactic(auto, unfolding(crate::specs::Flat::flat_of_selected))]
+fn flat_selected(s: Option<usize>) -> Answer
     ensures { result ≡ flat_of_selected s }
 {
     match s {
-        Selected::At(n) => answered_with(n as u64),
-        Selected::Nothing => Answer {
+        Some(n) => answered_with(n as u64),
+        None => Answer {
             number: 0,
             present: false,
             expected: 0,

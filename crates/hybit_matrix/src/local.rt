@@ -11,8 +11,9 @@ ghost use Rattle.hybit_matrix.specs.Flat.{flat_of_counted};
 ghost use Rattle.hybit_matrix.specs.FlatLocal.{flat_of_pattern, flat_of_plan};
 
 use crate::Answer;
-use numeric_plan::PlanPrepared;
-use pattern::PatternExtracted;
+use base::Refusal;
+use numeric_plan::AbtmLocalNumericPlanStats;
+use pattern::AbtmLocalSubmatrixPatternStats;
 
 // The statistics of a pattern, and the two ratios that follow from them; all 0 on a refusal.
 #[repr(C)]
@@ -50,11 +51,12 @@ pub struct PlanAnswer {
     pub plan_bytes: u64,
 }
 
-fn flat_pattern(s: PatternExtracted) -> PatternAnswer
+#[tactic(auto, unfolding(crate::specs::FlatLocal::flat_of_pattern))]
+fn flat_pattern(s: Result<AbtmLocalSubmatrixPatternStats, Refusal>) -> PatternAnswer
     ensures { result ≡ flat_of_pattern s }
 {
     match s {
-        PatternExtracted::Extracted(x) => PatternAnswer {
+        Ok(x) => PatternAnswer {
             number: 0,
             present: true,
             expected: 0,
@@ -70,11 +72,11 @@ fn flat_pattern(s: PatternExtracted) -> PatternAnswer
             structural_pruning_ratio: x.structural_pruning_ratio(),
             average_local_row_nnz: x.average_local_row_nnz(),
         },
-        PatternExtracted::Refused(r) => PatternAnswer {
-            number: r.number,
+        Err(r) => PatternAnswer {
+            number: r.number(),
             present: false,
-            expected: r.expected,
-            actual: r.actual,
+            expected: r.expected(),
+            actual: r.actual(),
             global_nodes: 0,
             local_nodes: 0,
             local_nnz: 0,
@@ -89,11 +91,12 @@ fn flat_pattern(s: PatternExtracted) -> PatternAnswer
     }
 }
 
-fn flat_plan(s: PlanPrepared) -> PlanAnswer
+#[tactic(auto, unfolding(crate::specs::FlatLocal::flat_of_plan))]
+fn flat_plan(s: Result<AbtmLocalNumericPlanStats, Refusal>) -> PlanAnswer
     ensures { result ≡ flat_of_plan s }
 {
     match s {
-        PlanPrepared::Prepared(x) => PlanAnswer {
+        Ok(x) => PlanAnswer {
             number: 0,
             present: true,
             expected: 0,
@@ -105,11 +108,11 @@ fn flat_plan(s: PlanPrepared) -> PlanAnswer
             direct_source_map: x.direct_source_map,
             plan_bytes: x.plan_bytes as u64,
         },
-        PlanPrepared::Refused(r) => PlanAnswer {
-            number: r.number,
+        Err(r) => PlanAnswer {
+            number: r.number(),
             present: false,
-            expected: r.expected,
-            actual: r.actual,
+            expected: r.expected(),
+            actual: r.actual(),
             local_nodes: 0,
             local_nnz: 0,
             source_terms: 0,

@@ -12,7 +12,9 @@ ghost use Rattle.hybit_matrix.specs.Flat.{flat_of_checked};
 ghost use Rattle.hybit_matrix.specs.FlatTopology.{flat_of_stated, flat_of_built};
 
 use crate::{Answer, PairAnswer};
-use topology::{SideBuilt, Stated};
+use base::Refusal;
+use side::SideCounts;
+use topology::AbtmTopologyStats;
 
 // Counts, bytes and the three ratios; all 0 on a refusal.
 #[repr(C)]
@@ -32,11 +34,12 @@ pub struct TopologyStatsAnswer {
     pub metadata_bytes_per_nnz: f64,
 }
 
-fn flat_stated(s: Stated) -> TopologyStatsAnswer
+#[tactic(auto, unfolding(crate::specs::FlatTopology::flat_of_stated))]
+fn flat_stated(s: Result<AbtmTopologyStats, Refusal>) -> TopologyStatsAnswer
     ensures { result ≡ flat_of_stated s }
 {
     match s {
-        Stated::Stats(x) => TopologyStatsAnswer {
+        Ok(x) => TopologyStatsAnswer {
             number: 0,
             present: true,
             expected: 0,
@@ -50,11 +53,11 @@ fn flat_stated(s: Stated) -> TopologyStatsAnswer
             word_fill_ratio: x.word_fill_ratio(),
             metadata_bytes_per_nnz: x.metadata_bytes_per_nnz(),
         },
-        Stated::Refused(r) => TopologyStatsAnswer {
-            number: r.number,
+        Err(r) => TopologyStatsAnswer {
+            number: r.number(),
             present: false,
-            expected: r.expected,
-            actual: r.actual,
+            expected: r.expected(),
+            actual: r.actual(),
             nrows: 0,
             ncols: 0,
             structural_nnz: 0,
@@ -68,12 +71,13 @@ fn flat_stated(s: Stated) -> TopologyStatsAnswer
 }
 
 // first and second: words and pairs.
-fn flat_built(b: SideBuilt) -> PairAnswer
+#[tactic(auto, unfolding(crate::specs::FlatTopology::flat_of_built))]
+fn flat_built(b: Result<SideCounts, Refusal>) -> PairAnswer
     ensures { result ≡ flat_of_built b }
 {
     match b {
-        SideBuilt::Built(x) => crate::layout::pair_with(x.words, x.pairs),
-        SideBuilt::Refused(r) => crate::layout::pair_refused(r),
+        Ok(x) => crate::layout::pair_with(x.words, x.pairs),
+        Err(r) => crate::layout::pair_refused(r),
     }
 }
 

@@ -16,7 +16,8 @@ ghost use Rattle.hybit_matrix.specs.Flat.{flat_of_counted};
 ghost use Rattle.hybit_matrix.specs.FlatPrepared.{flat_of_prepared};
 
 use crate::Answer;
-use prepared_field_region::RegionPrepared;
+use base::Refusal;
+use prepared_field_region::PreparedFieldAwareLocalRegion;
 
 // The counts of the topology, then the statistics of topology, growth, pattern and plan; a name that two of them have is told apart by a prefix. All
 // 0 and false on a refusal.
@@ -61,11 +62,12 @@ pub struct PreparedAnswer {
     pub plan_bytes: u32,
 }
 
-fn flat_prepared(s: RegionPrepared) -> PreparedAnswer
+#[tactic(auto, unfolding(crate::specs::FlatPrepared::flat_of_prepared))]
+fn flat_prepared(s: Result<PreparedFieldAwareLocalRegion, Refusal>) -> PreparedAnswer
     ensures { result ≡ flat_of_prepared s }
 {
     match s {
-        RegionPrepared::Prepared(x) => {
+        Ok(x) => {
             let counts = x.counts;
             let topology = x.topology;
             let growth = x.growth;
@@ -110,11 +112,11 @@ fn flat_prepared(s: RegionPrepared) -> PreparedAnswer
                 plan_bytes: numeric_plan.plan_bytes,
             }
         }
-        RegionPrepared::Refused(r) => PreparedAnswer {
-            number: r.number,
+        Err(r) => PreparedAnswer {
+            number: r.number(),
             present: false,
-            expected: r.expected,
-            actual: r.actual,
+            expected: r.expected(),
+            actual: r.actual(),
             row_words: 0,
             column_words: 0,
             pairs: 0,

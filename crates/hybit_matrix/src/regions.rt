@@ -15,9 +15,10 @@ ghost use Rattle.hybit_matrix.specs.Flat.{flat_of_counted};
 ghost use Rattle.hybit_matrix.specs.FlatRegions.{flat_of_grown, flat_of_field_grown, flat_of_regions};
 
 use crate::Answer;
-use field_region::FieldGrown;
-use multiplicity::RegionsCounted;
-use region::RegionGrown;
+use base::Refusal;
+use field_region::FieldAwareRegionStats;
+use multiplicity::AbtmRegionMultiplicityStats;
+use region::AbtmRegionGrowthStats;
 
 // The statistics of a growth, and the two figures that follow from them; all 0 on a refusal.
 #[repr(C)]
@@ -79,11 +80,12 @@ pub struct MultiplicityAnswer {
     pub overlap_fraction_on_covered: f64,
 }
 
-fn flat_grown(s: RegionGrown) -> GrowthAnswer
+#[tactic(auto, unfolding(crate::specs::FlatRegions::flat_of_grown))]
+fn flat_grown(s: Result<AbtmRegionGrowthStats, Refusal>) -> GrowthAnswer
     ensures { result ≡ flat_of_grown s }
 {
     match s {
-        RegionGrown::Grown(x) => GrowthAnswer {
+        Ok(x) => GrowthAnswer {
             number: 0,
             present: true,
             expected: 0,
@@ -99,11 +101,11 @@ fn flat_grown(s: RegionGrown) -> GrowthAnswer
             topology_words_visited: x.topology_words_visited(),
             new_nodes: x.new_nodes(),
         },
-        RegionGrown::Refused(r) => GrowthAnswer {
-            number: r.number,
+        Err(r) => GrowthAnswer {
+            number: r.number(),
             present: false,
-            expected: r.expected,
-            actual: r.actual,
+            expected: r.expected(),
+            actual: r.actual(),
             hops_requested: 0,
             hops_completed: 0,
             seed_nodes: 0,
@@ -118,11 +120,12 @@ fn flat_grown(s: RegionGrown) -> GrowthAnswer
     }
 }
 
-fn flat_field_grown(s: FieldGrown) -> FieldGrowthAnswer
+#[tactic(auto, unfolding(crate::specs::FlatRegions::flat_of_field_grown))]
+fn flat_field_grown(s: Result<FieldAwareRegionStats, Refusal>) -> FieldGrowthAnswer
     ensures { result ≡ flat_of_field_grown s }
 {
     match s {
-        FieldGrown::Grown(x) => FieldGrowthAnswer {
+        Ok(x) => FieldGrowthAnswer {
             number: 0,
             present: true,
             expected: 0,
@@ -138,11 +141,11 @@ fn flat_field_grown(s: FieldGrown) -> FieldGrowthAnswer
             column_words_visited: x.column_words_visited,
             candidate_neighbor_bits: x.candidate_neighbor_bits,
         },
-        FieldGrown::Refused(r) => FieldGrowthAnswer {
-            number: r.number,
+        Err(r) => FieldGrowthAnswer {
+            number: r.number(),
             present: false,
-            expected: r.expected,
-            actual: r.actual,
+            expected: r.expected(),
+            actual: r.actual(),
             hops_requested: 0,
             hops_completed: 0,
             seed_dofs: 0,
@@ -157,11 +160,12 @@ fn flat_field_grown(s: FieldGrown) -> FieldGrowthAnswer
     }
 }
 
-fn flat_regions(s: RegionsCounted) -> MultiplicityAnswer
+#[tactic(auto, unfolding(crate::specs::FlatRegions::flat_of_regions))]
+fn flat_regions(s: Result<AbtmRegionMultiplicityStats, Refusal>) -> MultiplicityAnswer
     ensures { result ≡ flat_of_regions s }
 {
     match s {
-        RegionsCounted::Stats(x) => MultiplicityAnswer {
+        Ok(x) => MultiplicityAnswer {
             number: 0,
             present: true,
             expected: 0,
@@ -177,11 +181,11 @@ fn flat_regions(s: RegionsCounted) -> MultiplicityAnswer
             average_multiplicity_on_covered: x.average_multiplicity_on_covered,
             overlap_fraction_on_covered: x.overlap_fraction_on_covered,
         },
-        RegionsCounted::Refused(r) => MultiplicityAnswer {
-            number: r.number,
+        Err(r) => MultiplicityAnswer {
+            number: r.number(),
             present: false,
-            expected: r.expected,
-            actual: r.actual,
+            expected: r.expected(),
+            actual: r.actual(),
             region_count: 0,
             node_count: 0,
             total_memberships: 0,

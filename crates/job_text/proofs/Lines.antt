@@ -1,19 +1,14 @@
 -- The five lines of an answer: how long they are, that they are written one behind the other, and that what was counted has room. Assumes nothing.
-use mathlib.Core.Path.{◌≡◌, refl, ap₂, ◌∙◌}
-use mathlib.Core.Bool.{Bool, true, false}
+use mathlib.Core.Path.{◌≡◌, ap₂, ◌∙◌}
 use mathlib.Core.List.{List, [], ◌++◌, append_assoc}
-use Prim.Native.Nat.{ℕ, ◌+◌, ◌≤◌}
+use Prim.Native.Nat.{ℕ, ◌+◌}
 use native.Mathlib.Omega.{arith}
-use borrow.Author.Tests.{leb-true}
-use lib.Dec.{leb}
 use lib.ListN.{length, length-append}
-use Rattle.base.specs.Checks.{must, after}
 use Rattle.base.specs.Lists.{over, placed}
-use Rattle.base.specs.declared.Counted.{Counted}
 use Rattle.base.proofs.Lists.{placed-over}
 use Rattle.text_writing.specs.Text.{decimal, numbers, line}
 use Rattle.text_writing.proofs.Lists.{length-line}
-use Rattle.job_text.specs.Answer.{region_key, frontier_key, completed_key, local_ptr_key, local_cols_key, result_lines, text_check, text_answer}
+use Rattle.job_text.specs.Answer.{region_key, frontier_key, completed_key, local_ptr_key, local_cols_key, result_lines}
 
 -- from the front on
 pub placed-front : (X l : List ℕ) → placed 0 X l ≡ over X l
@@ -70,12 +65,3 @@ module _ (region frontier : List ℕ) (completed : ℕ) (ptr cols : List ℕ) wh
       append_assoc (line1 ++ line2 ++ line3) line4 line5
       ∙ append_assoc (line1 ++ line2) line3 (line4 ++ line5)
       ∙ append_assoc line1 line2 (line3 ++ (line4 ++ line5))
-
--- what was counted stands in the list
-pub counted-fits : (text out : List ℕ) (n : ℕ) → text_answer text out ≡ Counted.Count n → n ≤ length out
-unfolding text_check must
-counted-fits text out n e = go (leb (length text) (length out)) refl e
-  where
-    go : (b : Bool) → leb (length text) (length out) ≡ b → after (must b 25) (Counted.Count (length text)) Counted.Refused ≡ Counted.Count n → n ≤ length out
-    go true h f = let same : length text ≡ n = cc in omega (arith, leb-true (length text) (length out) h)
-    go false h f = absurd (let z : ◌≡◌ {A = ℕ} 0 1 = cc in omega arith)

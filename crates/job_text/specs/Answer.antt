@@ -1,9 +1,10 @@
 -- The text that answers a job, and what a call that writes a text answers and leaves.
 use Rattle.std.specs.Prelude.{List, [], ◌∷◌, ◌++◌, ℕ, leb, length}
+use Rattle.std.specs.Prelude.{Result}
+use Rattle.base.specs.Checks.{refusal_number, Check, answer}
+use Rattle.base.specs.declared.Refusal.TheVariants.{ListTooShort}
 use Rattle.base.specs.Checks.{must, after, leaves}
 use Rattle.base.specs.Lists.{over}
-use Rattle.base.specs.declared.Checked.{Checked}
-use Rattle.base.specs.declared.Counted.{Counted}
 use Rattle.base.specs.declared.Refusal.{Refusal}
 use Rattle.text_writing.specs.Text.{decimal, numbers, line}
 
@@ -46,15 +47,15 @@ result_lines region frontier completed ptr cols =
 
 -- only the line refused= and the number
 abbrev pub refused_text : Refusal → List ℕ
-refused_text r = line refused_key (decimal r.number)
+refused_text r = line refused_key (decimal (refusal_number r))
 
 -- ---- writing one: the text over the front of the lent list, and how long it is; 25 where the list is shorter
 
-unfoldable pub text_check : List ℕ → List ℕ → Checked
-text_check text out = must (leb (length text) (length out)) 25
+unfoldable pub text_check : List ℕ → List ℕ → Check
+text_check text out = must (leb (length text) (length out)) ListTooShort
 
-abbrev pub text_answer : List ℕ → List ℕ → Counted
-text_answer text out = after (text_check text out) (Counted.Count (length text)) Counted.Refused
+abbrev pub text_answer : List ℕ → List ℕ → Result ℕ Refusal
+text_answer text out = answer (text_check text out) (length text)
 
 abbrev pub text_left : List ℕ → List ℕ → List ℕ
 text_left text out = leaves (text_check text out) (over text out) out

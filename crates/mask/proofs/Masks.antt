@@ -1,6 +1,7 @@
 -- Laws of masks: what the words of a set hold, that an accepted mask is the words of its set, and one store, one operation, one count in them.
 -- Assumes nothing.
 use mathlib.Core.Path.{◌≡◌, refl, sym, ap, ap₂, ◌∙◌, subst}
+use Rattle.std.specs.Prelude.{Ok}
 use mathlib.Core.Logic.{◌⊎◌, inl, inr, ◌≢◌}
 use mathlib.Core.Bool.{Bool, true, false, not, ◌&&◌, ◌||◌}
 use mathlib.Core.List.{List}
@@ -9,14 +10,14 @@ use native.Mathlib.Omega.{arith}
 use native.Mathlib.Nat.{zero-add}
 use native.Mathlib.Decide.{ℕ_discrete}
 use borrow.Author.Tests.{lt-ltb, le-ltb, le-leb, eq-eqb, leb-true}
+use lib.Count.{trailing_le}
 use lib.Dec.{T, ltb, lt→ltb, ltb→lt}
 use lib.ListN.{length, get_or, set, take, replicate, length-replicate, get_or-replicate, length-set, replicate-append-replicate}
 use lib.Seq.{ext_get_or, get_or-set_same, get_or-set_other, take_at}
 use Rattle.base.specs.Checks.{side_limit}
 use Rattle.base.specs.Sets.{every_below, count_below}
-use Rattle.base.specs.declared.Checked.{Checked}
 use Rattle.base.proofs.Bools.{decide, and_l, and_r, or_l, or_r, or-e, T_true, T_false, T_of, lt-or-le}
-use Rattle.base.proofs.Checks.{pass, last-pass, length-pass, passed, length-passed, both-passed}
+use Rattle.base.proofs.Checks.{checks, pass, last-pass, group-pass, group-stop, on-accepted, on-refused, kept, length-pass, passed, length-passed, both-passed}
 use Rattle.base.proofs.Lists.{length-list_from, get_or-list_from, list_from-cong}
 use Rattle.base.proofs.Sets.{every-i, every-e}
 use Rattle.word.specs.Bits.{bit_at, word_of}
@@ -99,20 +100,20 @@ mask-of len words e fits c = ext_get_or 0 words (mask_words len (in_mask words))
         sym (word-of-bits (λ i. ltb i len && in_mask words i) 64 (64 * w) (get_or words w 0) (fits w) (λ j h. bit w j l h))
         ∙ sym (word_at len (in_mask words) w (omega (arith, e)))
 
-pub accepted-shape : (len : ℕ) (words : List ℕ) → len ≤ side_limit → ((w : ℕ) → get_or words w 0 < 2 ^ 64) → shape_check len words ≡ Checked.Accepted → IsMask len words
+pub accepted-shape : (len : ℕ) (words : List ℕ) → len ≤ side_limit → ((w : ℕ) → get_or words w 0 < 2 ^ 64) → shape_check len words ≡ Ok tt → IsMask len words
 unfolding shape_check
 accepted-shape len words h fits e =
     let a = both-passed _ _ e in
     record { short = h; exact = mask-of len words (length-passed _ _ a.0) fits (passed _ _ a.1) }
 
-pub accepted-mask : (len : ℕ) (words : List ℕ) → ((w : ℕ) → get_or words w 0 < 2 ^ 64) → mask_check len words ≡ Checked.Accepted → IsMask len words
+pub accepted-mask : (len : ℕ) (words : List ℕ) → ((w : ℕ) → get_or words w 0 < 2 ^ 64) → mask_check len words ≡ Ok tt → IsMask len words
 unfolding mask_check
 accepted-mask len words fits e =
     let a = both-passed _ _ e in
     accepted-shape len words (leb-true _ _ (passed _ _ a.0)) fits a.1
 
 -- a mask of the length that it must have
-pub accepted-length : (expected len : ℕ) (words : List ℕ) → expected ≤ side_limit → ((w : ℕ) → get_or words w 0 < 2 ^ 64) → length_check expected len words ≡ Checked.Accepted
+pub accepted-length : (expected len : ℕ) (words : List ℕ) → expected ≤ side_limit → ((w : ℕ) → get_or words w 0 < 2 ^ 64) → length_check expected len words ≡ Ok tt
     → (len ≡ expected) × IsMask expected words
 unfolding length_check
 accepted-length expected len words h fits e =
@@ -122,7 +123,7 @@ accepted-length expected len words h fits e =
 
 -- two masks, the second of the first's length
 pub accepted-pair : (len : ℕ) (words : List ℕ) (len2 : ℕ) (other : List ℕ) → ((w : ℕ) → get_or words w 0 < 2 ^ 64) → ((w : ℕ) → get_or other w 0 < 2 ^ 64)
-    → pair_check len words len2 other ≡ Checked.Accepted → IsMask len words × IsMask len other
+    → pair_check len words len2 other ≡ Ok tt → IsMask len words × IsMask len other
 unfolding pair_check
 accepted-pair len words len2 other fits fits2 e =
     let a = both-passed _ _ e in
@@ -137,7 +138,7 @@ pub is-of : (len : ℕ) (p : ℕ → Bool) (words : List ℕ) → len ≤ side_l
 is-of len p words h e = subst (IsMask len) (sym e) (mask_is len p h)
 
 -- and the check says so: what one call leaves, the next accepts
-pub mask-accepted : (len : ℕ) (p : ℕ → Bool) → len ≤ side_limit → mask_check len (mask_words len p) ≡ Checked.Accepted
+pub mask-accepted : (len : ℕ) (p : ℕ → Bool) → len ≤ side_limit → mask_check len (mask_words len p) ≡ Ok tt
 unfolding mask_check shape_check clean
 mask-accepted len p h =
     sym
@@ -168,6 +169,9 @@ module _ (len : ℕ) (words : List ℕ) (m : IsMask len words) where
   pub is_below : (i : ℕ) → i < 64 * length words → T (in_mask words i) → i < len
   is_below i h t =
       ltb→lt i len (and_l (ltb i len) (in_mask words i) (subst (λ (b : Bool). T b) (ap (λ (l : List ℕ). in_mask l i) m.exact ∙ in-set len (in_mask words) i (omega (arith, is-length))) t))
+
+-- what a proof over a mask looks for by itself: how many words there are, and that a place in one is at most 64
+pub ruleset sizes = (is-length, mask-length, trailing_le)
 
 -- ---- stores
 
@@ -231,7 +235,10 @@ pub count-as : (n m : ℕ) (x y : List ℕ) (r : ℕ) → n ≡ m → x ≡ y �
 count-as n m x y r e q h = h ∙ ap₂ (λ (k : ℕ) (l : List ℕ). count_below k (in_mask l)) e q
 
 -- an accepted mask of that length is accepted where its length is told
-pub words-accepted : (side len : ℕ) (words : List ℕ) → len ≡ side → mask_check side words ≡ Checked.Accepted → length_check side len words ≡ Checked.Accepted
+pub words-accepted : (side len : ℕ) (words : List ℕ) → len ≡ side → mask_check side words ≡ Ok tt → length_check side len words ≡ Ok tt
 unfolding length_check mask_check
 words-accepted side len words same e =
-    sym (length-pass _ _ _ _ (eq-eqb len side same) (sym (subst (λ (n : ℕ). shape_check n words ≡ Checked.Accepted) (sym same) (both-passed _ _ e).1)))
+    sym (length-pass _ _ _ _ (eq-eqb len side same) (sym (subst (λ (n : ℕ). shape_check n words ≡ Ok tt) (sym same) (both-passed _ _ e).1)))
+
+-- what the functions of a mask look for, each with its chain of checks unfolded
+pub ruleset answers = (accepted-mask, accepted-pair, on-accepted, on-refused, kept, group-pass, group-stop, checks, sizes)

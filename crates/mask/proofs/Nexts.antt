@@ -16,7 +16,7 @@ use Rattle.word.specs.Bits.{bit_at}
 use Rattle.word.proofs.Bits.{bit-shr, first_bit, zero_bit}
 use Rattle.word.proofs.Words.{bit_past}
 use Rattle.mask.specs.Mask.{in_mask, IsMask}
-use Rattle.mask.proofs.Masks.{in-word, is-length, is-fits, is_below}
+use Rattle.mask.proofs.Masks.{sizes, in-word, is-length, is-fits, is_below}
 
 -- the next member from `from` on, or the length
 abbrev pub next_member_of : ℕ → List ℕ → ℕ → ℕ
@@ -129,3 +129,6 @@ next-is len words from i h e =
           let s : from + (k - from) ≡ k = omega arith in
           f.before (k - from) (omega arith) (subst (λ (x : ℕ). T (in_mask words x)) (sym s) t);
     }
+
+-- what the scan looks for
+pub ruleset walking = (none_ahead, next_over, sizes)

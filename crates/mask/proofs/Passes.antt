@@ -2,46 +2,53 @@
 -- order. Assumes nothing.
 use mathlib.Core.Path.{◌≡◌, refl, sym, ap, ap₂, ◌∙◌}
 use mathlib.Core.Bool.{Bool, true, false, ◌&&◌, not, ◌||◌}
-use mathlib.Core.List.{List, ◌++◌, map}
-use Prim.Native.Nat.{ℕ, ◌+◌, ◌-◌, ◌*◌, ◌^◌, ◌≤◌, ◌<◌}
+use mathlib.Core.List.{List, [], ◌∷◌, ◌++◌, map}
+use Prim.Native.Nat.{ℕ, suc, ◌+◌, ◌-◌, ◌*◌, ◌/◌, ◌%◌, ◌^◌, ◌≤◌, ◌<◌}
 use native.Mathlib.Omega.{arith}
-use lib.Bits.{bit_and, bit_or}
-use lib.Count.{count_trailing_zeros}
+use native.Mathlib.Nat.{lt_of_le_of_lt}
+use lib.Bits.{bit_and, bit_or, and_le_l}
+use lib.Count.{ones, count_trailing_zeros}
 use lib.Dec.{T, ltb, eqb}
-use lib.ListN.{length, get_or, drop}
+use lib.ListN.{length, get_or, set, drop, length-drop}
+use Rattle.std.specs.List.{list_any}
 use Rattle.base.specs.Sets.{any_below, count_below, members_from, members_below}
-use Rattle.base.proofs.Bools.{T_true}
-use Rattle.base.proofs.Lists.{at_head}
-use Rattle.base.proofs.Sets.{None, any-i, any_none, count_past, members-append, members-past, any-cong, any_append, any-past}
+use Rattle.base.specs.Lists.{written, over}
+use Rattle.base.proofs.Bools.{and_l, T_true, not-T-of}
+use Rattle.base.proofs.Lists.{at_head, put_next, put_whole, put-ahead, put-end}
+use Rattle.base.proofs.Sets.{count-members, count-le, sum-zero, None, any-i, any_none, count_past, members-zero, members-append, members-past, any-cong, any_append, any-past}
 use Rattle.word.specs.Bits.{bit_at, set_bits, word_from}
 use Rattle.word.specs.Answers.{on}
 use Rattle.word.specs.declared.Operation.{Operation}
-use Rattle.word.proofs.Bits.{bit-and, lowest, no_bits}
-use Rattle.word.proofs.Turns.{turn-members}
+use Rattle.word.proofs.Bits.{zero_bit, bit-and, lowest, no_bits}
+use Rattle.word.proofs.Turns.{some_turn, count_turn, turn-members}
 use Rattle.word.proofs.Answers.{off}
 use Rattle.word.proofs.Words.{word-ext, on-words, word-empty, or-empty}
 use Rattle.mask.specs.Mask.{in_mask, IsMask}
 use Rattle.mask.specs.Answers.{combined}
-use Rattle.mask.proofs.Masks.{in-word, word_at, is-length, is_word, is_below, is-fits}
+use Rattle.mask.proofs.Masks.{sizes, mask-length, in-word, word_at, is-length, is_word, is_below, is-fits}
 
--- ---- two masks
+-- ---- a list of words
+
+-- whether one of them is not 0: word w holds the members from 64 w on
+any_words : (l : List ℕ) (p : ℕ → Bool) → ((w : ℕ) → w < length l → get_or l w 0 < 2 ^ 64)
+    → ((w j : ℕ) → w < length l → j < 64 → p (64 * w + j) ≡ bit_at (get_or l w 0) j)
+    → list_any (λ x. not (eqb x 0)) l ≡ any_below (64 * length l) p
+any_words [] p fits e = sym (any_none 0 p (λ i h t. omega arith))
+any_words (x ∷ l) p fits e =
+    let long : 64 + 64 * length l ≡ 64 * length (x ∷ l) = omega arith in
+    ap₂ ◌||◌
+    (word-empty 64 x (fits 0 (omega arith)) ∙ any-cong 64 (bit_at x) p (λ j h. sym (e 0 j (omega arith) h) ∙ ap p (omega arith)))
+    (any_words l (λ i. p (64 + i)) (λ w h. fits (suc w) (omega arith)) (λ w j h k. ap p (omega arith) ∙ e (suc w) j (omega arith) k))
+    ∙ sym (any_append 64 (64 * length l) p) ∙ ap (λ (n : ℕ). any_below n p) long
 
 -- the bits of two words in common
-pub common-bits : (a b : List ℕ) (w j : ℕ) → j < 64 → (in_mask a (64 * w + j) && in_mask b (64 * w + j)) ≡ bit_at (bit_and (get_or a w 0) (get_or b w 0)) j
+common-bits : (a b : List ℕ) (w j : ℕ) → j < 64 → (in_mask a (64 * w + j) && in_mask b (64 * w + j)) ≡ bit_at (bit_and (get_or a w 0) (get_or b w 0)) j
 common-bits a b w j h =
     ap₂ (λ (s t : Bool). s && t) (in-word a w j h) (in-word b w j h) ∙ sym (bit-and (get_or a w 0) (get_or b w 0) j)
 
 -- ---- a mask holds nothing past its length
 
 module _ (len : ℕ) (words : List ℕ) (m : IsMask len words) where
-  pub any_found : (p : ℕ → Bool) → ((i : ℕ) → T (p i) → T (in_mask words i)) → (w : ℕ) → w < length words
-      → (i : ℕ) × (64 * w ≤ i) × (i < 64 * (w + 1)) × T (p i) → true ≡ any_below len p
-  any_found p sub w h r =
-      sym (T_true (any_below len p) (any-i len p r.0 (is_below len words m r.0 (omega (arith, r.2)) (sub r.0 r.3)) r.3))
-
-  pub any-over : (p : ℕ → Bool) (w : ℕ) → length words ≤ w → None p (64 * w) → false ≡ any_below len p
-  any-over p w h none = sym (any_none len p (λ i l t. none i (omega (arith, is-length len words m)) t))
-
   -- whether a node was found, as the words joined
   pub any-turn : (w some : ℕ) → w < length words → some < 2 ^ 64 → not (eqb some 0) ≡ any_below (64 * w) (in_mask words)
       → not (eqb (bit_or some (get_or words w 0)) 0) ≡ any_below (64 * (w + 1)) (in_mask words)
@@ -56,6 +63,34 @@ module _ (len : ℕ) (words : List ℕ) (m : IsMask len words) where
   any-whole =
       any-past len (64 * length words) (in_mask words) (omega (arith, is-length len words m))
       (λ i l u t. omega (arith, is_below len words m i u t))
+
+  pub any-list : list_any (λ x. not (eqb x 0)) words ≡ any_below len (in_mask words)
+  any-list = any_words words (in_mask words) (is-fits len words m) (λ w j h k. in-word words w j k) ∙ any-whole
+
+  -- with another mask: a word that has a bit in common, and none that has
+  module _ (other : List ℕ) where
+    abbrev both : ℕ → Bool
+    both i = in_mask words i && in_mask other i
+
+    abbrev common : ℕ → ℕ
+    common w = bit_and (get_or words w 0) (get_or other w 0)
+
+    pub common-some : (w : ℕ) → w < length words → (common w ≡ 0 → ⊥) → true ≡ any_below len both
+    common-some w h n =
+        let r : (i : ℕ) × (64 * w ≤ i) × (i < 64 * (w + 1)) × T (both i) =
+        some_turn both w (common w) (common-bits words other w) (lt_of_le_of_lt (and_le_l (get_or words w 0) (get_or other w 0)) (is-fits len words m w h)) n in
+        sym (T_true (any_below len both) (any-i len both r.0 (is_below len words m r.0 (omega (arith, r.2)) (and_l (in_mask words r.0) (in_mask other r.0) r.3)) r.3))
+
+    pub common-none : ((w : ℕ) → w < length words → common w ≡ 0) → false ≡ any_below len both
+    common-none h =
+        sym (any_none len both (λ i l. not-T-of (both i)
+        (let e : i ≡ 64 * (i / 64) + i % 64 = omega arith in
+        ap both e ∙ common-bits words other (i / 64) (i % 64) (omega arith) ∙ ap (λ (x : ℕ). bit_at x (i % 64)) (h (i / 64) (omega (arith, is-length len words m))) ∙ zero_bit (i % 64))))
+
+  -- the count with one word more
+  pub count-word : (w n : ℕ) → w < length words → n ≡ count_below (64 * w) (in_mask words) → n + ones (get_or words w 0) ≡ count_below (64 * (w + 1)) (in_mask words)
+  count-word w n h e =
+      ap (λ (k : ℕ). k + ones (get_or words w 0)) e ∙ count_turn (in_mask words) w (get_or words w 0) (λ j l. in-word words w j l) (is-fits len words m w h)
 
   pub count-all : (w : ℕ) → w ≡ length words → count_below (64 * w) (in_mask words) ≡ count_below len (in_mask words)
   count-all w e =
@@ -81,6 +116,21 @@ op-turn o len a b ma mb w h =
     both : (t x y : Bool) → on o (t && x) (t && y) ≡ (t && on o x y)
     both true x y = refl
     both false x y = off o
+
+-- the first w words are combined
+module _ (o : Operation) (len : ℕ) (a b : List ℕ) (ma : IsMask len a) (mb : IsMask len b) where
+  combined-length : length (combined (on o) len a b) ≡ length a
+  combined-length = mask-length len (λ i. on o (in_mask a i) (in_mask b i)) ∙ sym (is-length len a ma)
+
+  pub combine-turn : (l : List ℕ) (w r : ℕ) → l ≡ written w (combined (on o) len a b) a → w < length a
+      → r ≡ word_from (λ i. on o (bit_at (get_or l w 0) i) (bit_at (get_or b w 0) i)) 64 0 → set l w r ≡ written (w + 1) (combined (on o) len a b) a
+  combine-turn l w r e h v =
+      let same : get_or l w 0 ≡ get_or a w 0 = ap (λ (x : List ℕ). get_or x w 0) e ∙ put-ahead (combined (on o) len a b) a w 0 (omega (arith, combined-length)) h in
+      put_next (combined (on o) len a b) a l w r 0 (omega (arith, combined-length)) h e
+      (v ∙ ap (λ (x : ℕ). word_from (λ i. on o (bit_at x i) (bit_at (get_or b w 0) i)) 64 0) same ∙ op-turn o len a b ma mb w h)
+
+  pub combine-end : (w : ℕ) → w ≡ length a → written w (combined (on o) len a b) a ≡ combined (on o) len a b
+  combine-end w h = put_whole (combined (on o) len a b) a (written w (combined (on o) len a b) a) w combined-length h refl
 
 -- ---- listing the members
 
@@ -109,3 +159,44 @@ member-turn l t n w b p h e =
 pub word-done : (l t : List ℕ) (n w b : ℕ) → b ≡ 0 → drop n l ≡ map (λ (i : ℕ). 64 * w + i) (set_bits b) ++ t → drop n l ≡ t
 word-done l t n w b z e =
     e ∙ ap (λ (m : ℕ). map (λ (i : ℕ). 64 * w + i) (set_bits m) ++ t) z ∙ ap (λ (m : List ℕ). map (λ (i : ℕ). 64 * w + i) m ++ t) (no_bits 64)
+
+-- n of the members are written, and `rest` is to come
+pub record Written (members rest before out : List ℕ) (n : ℕ) : Type 0 where
+  pub room : n ≤ length members
+  pub done : out ≡ written n members before
+  pub left : drop n members ≡ rest
+
+pub written-start : (len : ℕ) (words out : List ℕ) → IsMask len words → Written (members_below len (in_mask words)) (ahead words 0) out out 0
+written-start len words out m =
+    let all : length words ≡ length words - 0 = omega arith in
+    record { room = omega arith; done = refl; left = sym (members-all len words m) ∙ ap (λ (k : ℕ). members_from (in_mask words) 0 (64 * k)) all }
+
+module _ (l before out : List ℕ) (n w : ℕ) where
+  pub written-open : (words : List ℕ) → w < length words → Written l (ahead words w) before out n
+      → Written l (map (λ (i : ℕ). 64 * w + i) (set_bits (get_or words w 0)) ++ ahead words (w + 1)) before out n
+  written-open words h s = record { room = s.room; done = s.done; left = s.left ∙ open-word words w h }
+
+  module _ (t : List ℕ) (b : ℕ) (s : Written l (map (λ (i : ℕ). 64 * w + i) (set_bits b) ++ t) before out n) where
+    pub written-room : (b ≡ 0 → ⊥) → b < 2 ^ 64 → n < length l
+    written-room p fits = (member-turn l t n w b p fits s.left).0
+
+    pub written-turn : (b ≡ 0 → ⊥) → b < 2 ^ 64 → length l ≤ length before
+        → Written l (map (λ (i : ℕ). 64 * w + i) (set_bits (bit_and b (b - 1))) ++ t) before (set out n (w * 64 + count_trailing_zeros 64 b)) (n + 1)
+    written-turn p fits room =
+        let e = member-turn l t n w b p fits s.left in
+        let v : w * 64 + count_trailing_zeros 64 b ≡ get_or l n 0 = omega (arith, e.1) in
+        record { room = omega (arith, e.0); done = put_next l before out n (w * 64 + count_trailing_zeros 64 b) 0 e.0 (omega (arith, e.0)) s.done v; left = e.2 }
+
+    pub written-done : b ≡ 0 → Written l t before out n
+    written-done z = record { room = s.room; done = s.done; left = word-done l t n w b z s.left }
+
+  pub written-end : (words : List ℕ) → length words ≤ w → Written l (ahead words w) before out n → out ≡ over l before
+  written-end words h s =
+      let over : 64 * (length words - w) ≡ 0 = omega arith in
+      let none : drop n l ≡ [] = s.left ∙ ap (members_from (in_mask words) (64 * w)) over ∙ members-zero (in_mask words) (64 * w) in
+      put-end l before out n (omega (arith, s.room, ap length none, length-drop n l)) s.done
+
+-- what the passes look for
+pub ruleset counting = (count-word, count-all, count-le, sum-zero, sizes)
+
+pub ruleset combining = (combine-turn, combine-end, sizes)

@@ -11,6 +11,7 @@ use lib.ListN.{length, get_or}
 use lib.Pow.{shr_le}
 use Rattle.base.specs.Sets.{every_below}
 use Rattle.base.proofs.Bools.{or_l, or_r, or-e, T_true, T_false, T_of, not-T-of, lt-or-le}
+use Rattle.base.proofs.Checks.{checks}
 use Rattle.base.proofs.Sets.{every-i, every-e}
 use Rattle.word.specs.Bits.{bit_at}
 use Rattle.word.proofs.Bits.{zero_bit, bit-shr}
@@ -76,3 +77,6 @@ module _ (len : ℕ) (words : List ℕ) (count : length words ≡ words_needed l
           go : (i : ℕ) → len ≤ i → T (in_mask words i) → T (ltb i len) ⊎ T (not (in_mask words i)) → ⊥
           go i l held (inl a) = omega (arith, ltb→lt i len a)
           go i l held (inr a) = T_not (in_mask words i) a held
+
+-- what the check of a mask's shape looks for
+pub ruleset shapes = (clean-whole, clean-none, clean-some, checks)

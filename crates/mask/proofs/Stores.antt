@@ -6,7 +6,7 @@ use mathlib.Core.List.{List}
 use Prim.Native.Nat.{ℕ, ◌+◌, ◌-◌, ◌*◌, ◌/◌, ◌%◌, ◌^◌, ◌≤◌, ◌<◌}
 use native.Mathlib.Omega.{arith}
 use native.Mathlib.Numerals.{add-one}
-use borrow.Author.Tests.{eq-eqb, ne_eqb, lt-ltb, le-ltb}
+use borrow.Author.Tests.{ltb-true, eq-eqb, ne_eqb, lt-ltb, le-ltb}
 use lib.Bits.{bit_and, bit_or}
 use lib.Dec.{T, leb, ltb, eqb, leb→le, lt→ltb, ltb→lt}
 use lib.ListN.{length, get_or, set, take}
@@ -14,14 +14,14 @@ use lib.Seq.{take-suc}
 use Rattle.base.specs.Lists.{is_in}
 use Rattle.base.specs.Sets.{between}
 use Rattle.base.proofs.Bools.{eqb_swap, eq-or-ne, lt-or-le, not-below, and_l, and_r, or-false, T_false}
-use Rattle.base.proofs.Lists.{in-snoc}
+use Rattle.base.proofs.Lists.{every-at, in-snoc}
 use Rattle.base.proofs.Sets.{None}
 use Rattle.word.specs.Bits.{bit_at, word_of}
 use Rattle.word.proofs.Bits.{one_shl, bit_test, bit-and}
 use Rattle.word.proofs.Words.{word-ext, word_none, word-of-bits, word-op, or-bitwise, and-bitwise, and-not-bitwise, word-one, word_below, bit_word}
 use Rattle.mask.specs.Mask.{in_mask, words_needed, mask_words, IsMask}
 use Rattle.mask.specs.Answers.{with_node, with_word, with_range}
-use Rattle.mask.proofs.Masks.{mask-cong, mask-holds, word_at, is-length, is_word, mask-store, in-word}
+use Rattle.mask.proofs.Masks.{sizes, is-of, mask-none, mask-cong, mask-holds, word_at, is-length, is_word, mask-store, in-word}
 
 -- reading a node
 pub bit-read : (words : List ℕ) (i : ℕ) → not (eqb (bit_and (get_or words (i / 64) 0) ((1 * 2 ^ (i % 64)) % 2 ^ 64)) 0) ≡ in_mask words i
@@ -124,17 +124,12 @@ module _ (len : ℕ) (words : List ℕ) (m : IsMask len words) where
       ∙ mask-cong len (in_mask words) (λ i. in_mask words i || (eqb (i / 64) w && bit_at bits (i % 64)))
       (λ i l. sym (ap (λ (t : Bool). in_mask words i || (t && bit_at bits (i % 64))) (ne_eqb (i / 64) w (λ e. omega (arith, is-length len words m))) ∙ or-false (in_mask words i)))
 
--- no node yet
-pub fill_none : (len : ℕ) (l : List ℕ) → mask_words len (λ i. false) ≡ mask_words len (λ i. is_in i (take 0 l))
-unfolding is_in
-fill_none len l = refl
-
 -- one node more
-pub fill-turn : (len : ℕ) (l : List ℕ) (k : ℕ) → k < length l
-    → with_node len (mask_words len (λ i. is_in i (take k l))) (get_or l k 0) true ≡ mask_words len (λ i. is_in i (take (k + 1) l))
-fill-turn len l k h =
-    mask-cong len (λ j. cond (eqb j (get_or l k 0)) true (in_mask (mask_words len (λ i. is_in i (take k l))) j)) (λ i. is_in i (take (k + 1) l))
-    (λ i u. ap (cond (eqb i (get_or l k 0)) true) (mask-holds len (λ i. is_in i (take k l)) i u) ∙ turn i)
+pub fill-turn : (len : ℕ) (l words : List ℕ) (k : ℕ) → words ≡ mask_words len (λ i. is_in i (take k l)) → k < length l
+    → with_node len words (get_or l k 0) true ≡ mask_words len (λ i. is_in i (take (k + 1) l))
+fill-turn len l words k e h =
+    mask-cong len (λ j. cond (eqb j (get_or l k 0)) true (in_mask words j)) (λ i. is_in i (take (k + 1) l))
+    (λ i u. ap (cond (eqb i (get_or l k 0)) true) (ap (λ (x : List ℕ). in_mask x i) e ∙ mask-holds len (λ i. is_in i (take k l)) i u) ∙ turn i)
   where
     choose : (t b : Bool) → cond t true b ≡ (b || t)
     choose true true = refl
@@ -253,3 +248,10 @@ module _ (len : ℕ) (words : List ℕ) (start end : ℕ) where
       whole true true f = refl
       whole true false f = absurd (f tt)
       whole false t f = refl
+
+-- what the functions of one word look for
+pub ruleset stores = (bit-read, put_in, put-out, or-in, or-past, below-some, mask-none, sizes)
+
+pub ruleset filling = (fill-turn, is-of, every-at, ltb-true, sizes)
+
+pub ruleset ranging = (range-turn, sizes)

@@ -1,9 +1,10 @@
 -- A mask is a length and 64-bit words: a set of nodes below the length. Its check, and the words of a set.
 use Rattle.std.specs.Prelude.{◌≡◌, Bool, not, ◌&&◌, ◌||◌, List, ℕ, ◌+◌, ◌*◌, ◌/◌, ◌%◌, ◌≤◌, ltb, leb, length, get_or}
+use Rattle.base.specs.Checks.{Check}
+use Rattle.base.specs.declared.Refusal.TheVariants.{OverLimit, BitPastLength}
 use Rattle.base.specs.Checks.{must, must_be, ◌then◌, side_limit}
 use Rattle.base.specs.Lists.{list_from}
 use Rattle.base.specs.Sets.{every_below}
-use Rattle.base.specs.declared.Checked.{Checked}
 use Rattle.word.specs.Bits.{bit_at, word_of}
 
 -- node i is bit i mod 64 of word i / 64
@@ -23,15 +24,15 @@ unfoldable pub clean : ℕ → List ℕ → Bool
 clean len words = every_below (64 * length words) (λ i. ltb i len || not (in_mask words i))
 
 -- the word count, then 12
-unfoldable pub shape_check : ℕ → List ℕ → Checked
-shape_check len words = must_be (words_needed len) (length words) then must (clean len words) 12
+unfoldable pub shape_check : ℕ → List ℕ → Check
+shape_check len words = must_be (words_needed len) (length words) then must (clean len words) BitPastLength
 
 -- a mask on its own: 1 before 11
-unfoldable pub mask_check : ℕ → List ℕ → Checked
-mask_check len words = must (leb len side_limit) 1 then shape_check len words
+unfoldable pub mask_check : ℕ → List ℕ → Check
+mask_check len words = must (leb len side_limit) OverLimit then shape_check len words
 
 -- a mask against the length it must have: 11 for its length, 11 for its word count, 12
-unfoldable pub length_check : ℕ → ℕ → List ℕ → Checked
+unfoldable pub length_check : ℕ → ℕ → List ℕ → Check
 length_check expected len words = must_be expected len then shape_check len words
 
 -- an accepted mask is the words of its own set

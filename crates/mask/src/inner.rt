@@ -1,5 +1,7 @@
 // The work of a mask's functions, for callers that have checked: no part of the API. Where the code has no use for `len`, the contract has:
 // it says which mask the words are.
+#![tactic(auto, using(crate::proofs::Stores::stores))]
+
 ghost use Rattle.std.specs.Prelude.{◌≡◌, true, false, ◌&&◌, ◌+◌, ◌-◌, ◌<◌, ◌≤◌, ◌*◌, length, ltb};
 ghost use Rattle.base.specs.Checks.{side_limit};
 ghost use Rattle.base.specs.Lists.{every, below, is_in, over};
@@ -9,7 +11,7 @@ ghost use Rattle.word.specs.Answers.{on};
 ghost use Rattle.mask.specs.Mask.{in_mask, words_needed, mask_words, shape_check, length_check, IsMask};
 ghost use Rattle.mask.specs.Answers.{with_node, with_word, with_range, combined};
 
-use base::Checked;
+use base::Refusal;
 use word::{AbtmTopologyWord, Operation};
 
 pub fn words_for(len: usize) -> usize
@@ -20,31 +22,33 @@ pub fn words_for(len: usize) -> usize
 }
 
 // The word count and the bits past the length.
-pub fn check_shape(len: usize, words: &[u64]) -> Checked
+#[tactic(auto, using(crate::proofs::Shape::shapes), unfolding(crate::specs::Mask::shape_check))]
+pub fn check_shape(len: usize, words: &[u64]) -> Result<(), Refusal>
     requires { len ≤ side_limit }
     ensures { result ≡ shape_check len words.now }
 {
     let need = words_for(len);
     if words.len() != need {
-        return base::wrong_length(need, words.len());
+        return Err(Refusal::wrong_length(need, words.len()));
     }
     let spare = len % AbtmTopologyWord::BITS;
     if spare == 0 {
-        return Checked::Accepted;
+        return Ok(());
     }
     if words[need - 1] >> spare != 0 {
-        return base::refused(12);
+        return Err(Refusal::BitPastLength);
     }
-    Checked::Accepted
+    Ok(())
 }
 
 // A mask against the length that it must have.
-pub fn check_length(expected: usize, len: usize, words: &[u64]) -> Checked
+#[tactic(auto, using(base::proofs::Checks::checks), unfolding(crate::specs::Mask::length_check))]
+pub fn check_length(expected: usize, len: usize, words: &[u64]) -> Result<(), Refusal>
     requires { expected ≤ side_limit }
     ensures { result ≡ length_check expected len words.now }
 {
     if len != expected {
-        return base::wrong_length(expected, len);
+        return Err(Refusal::wrong_length(expected, len));
     }
     check_shape(len, words)
 }
@@ -53,22 +57,14 @@ pub fn clear(len: usize, words: &mut [u64])
     requires { length words.old ≡ words_needed len }
     ensures { words.new ≡ mask_words len (λ i. false) }
 {
-    let mut w: usize = 0;
-    while w < words.len() {
-        words[w] = 0;
-        w += 1;
-    }
+    words.fill(0);
 }
 
 pub fn copy(len: usize, words: &[u64], out: &mut [u64])
     requires { IsMask len words.now × (length out.old ≡ words_needed len) }
     ensures { out.new ≡ words.now }
 {
-    let mut w: usize = 0;
-    while w < words.len() {
-        out[w] = words[w];
-        w += 1;
-    }
+    out.copy_from_slice(words);
 }
 
 pub fn holds(len: usize, words: &[u64], index: usize) -> bool
@@ -92,15 +88,14 @@ pub fn put(len: usize, words: &mut [u64], index: usize, value: bool)
 }
 
 // The mask of the indices, on a list of exactly its words.
+#[tactic(auto, using(crate::proofs::Stores::filling), unfolding(base::specs::Lists::is_in))]
 pub fn fill(len: usize, indices: &[u64], words: &mut [u64])
     requires { (len ≤ side_limit) × (every (below len) indices.now ≡ true) × (length words.old ≡ words_needed len) }
     ensures { words.new ≡ mask_words len (λ i. is_in i indices.now) }
 {
     clear(len, words);
-    let mut k: usize = 0;
-    while k < indices.len() {
-        put(len, words, indices[k] as usize, true);
-        k += 1;
+    for index in indices {
+        put(len, words, *index as usize, true);
     }
 }
 
@@ -108,55 +103,45 @@ pub fn any_node(len: usize, words: &[u64]) -> bool
     requires { IsMask len words.now }
     ensures { result ≡ any_below len (in_mask words.now) }
 {
-    let mut w: usize = 0;
-    while w < words.len() {
-        if words[w] != 0 {
-            return true;
-        }
-        w += 1;
-    }
-    false
+    words.iter().any(|word| *word != 0)
 }
 
 pub fn any_common(len: usize, words: &[u64], other: &[u64]) -> bool
     requires { IsMask len words.now × IsMask len other.now }
     ensures { result ≡ any_below len (λ i. in_mask words.now i && in_mask other.now i) }
 {
-    let mut w: usize = 0;
-    while w < words.len() {
-        if words[w] & other[w] != 0 {
+    for (w, word) in words.iter().enumerate() {
+        if *word & other[w] != 0 {
             return true;
         }
-        w += 1;
     }
     false
 }
 
+#[tactic(auto, using(crate::proofs::Passes::counting))]
 pub fn count(len: usize, words: &[u64]) -> u64
     requires { IsMask len words.now }
     ensures { result ≡ count_below len (in_mask words.now) }
 {
     let mut total: u64 = 0;
-    let mut w: usize = 0;
-    while w < words.len() {
-        total += u64::count_ones(words[w]) as u64;
-        w += 1;
+    for word in words {
+        total += u64::count_ones(*word) as u64;
     }
     total
 }
 
+#[tactic(auto, using(crate::proofs::Passes::combining))]
 pub fn combine(len: usize, words: &mut [u64], other: &[u64], op: Operation)
     requires { IsMask len words.old × IsMask len other.now }
     ensures { words.new ≡ combined (on op) len words.old other.now }
 {
-    let mut w: usize = 0;
-    while w < words.len() {
-        words[w] = op.apply(words[w], other[w]);
-        w += 1;
+    for (w, word) in words.iter_mut().enumerate() {
+        *word = op.apply(*word, other[w]);
     }
 }
 
 // The first member at or after `from`, or the length. Words without a member are passed over whole.
+#[tactic(auto, using(crate::proofs::Nexts::walking))]
 pub fn next_member(len: usize, words: &[u64], from: usize) -> usize
     requires { IsMask len words.now × (from ≤ len) }
     ensures { result ≡ from + first_below (len - from) (λ j. in_mask words.now (from + j)) }
@@ -164,18 +149,16 @@ pub fn next_member(len: usize, words: &[u64], from: usize) -> usize
     if from == len {
         return len;
     }
-    let mut w = from / AbtmTopologyWord::BITS;
-    let ahead = words[w] >> (from % AbtmTopologyWord::BITS);
+    let first = from / AbtmTopologyWord::BITS;
+    let ahead = words[first] >> (from % AbtmTopologyWord::BITS);
     if ahead != 0 {
         return from + u64::trailing_zeros(ahead) as usize;
     }
-    w += 1;
-    while w < words.len() {
+    for w in first + 1..words.len() {
         let bits = words[w];
         if bits != 0 {
             return w * AbtmTopologyWord::BITS + u64::trailing_zeros(bits) as usize;
         }
-        w += 1;
     }
     len
 }
@@ -186,16 +169,14 @@ pub fn write_members(len: usize, words: &[u64], out: &mut [u64])
     ensures { out.new ≡ over (members_below len (in_mask words.now)) out.old }
 {
     let mut n: usize = 0;
-    let mut w: usize = 0;
-    while w < words.len() {
+    for (w, word) in words.iter().enumerate() {
         let first = (w * AbtmTopologyWord::BITS) as u64;
-        let mut bits = words[w];
+        let mut bits = *word;
         while bits != 0 {
             out[n] = first + (u64::trailing_zeros(bits) as u64);
             n += 1;
-            bits = bits & (bits - 1);
+            bits &= bits - 1;
         }
-        w += 1;
     }
 }
 
@@ -226,14 +207,12 @@ pub fn or_word(len: usize, words: &mut [u64], w: usize, bits: u64)
 }
 
 // The nodes from `start` up to `end` join the mask, a word at a time.
+#[tactic(auto, using(crate::proofs::Stores::ranging))]
 pub fn add_range(len: usize, words: &mut [u64], start: usize, end: usize)
     requires { IsMask len words.old × (end ≤ len) }
     ensures { words.new ≡ with_range len words.old start end }
 {
-    let stop = words_for(end);
-    let mut w = start / AbtmTopologyWord::BITS;
-    while w < stop {
+    for w in start / AbtmTopologyWord::BITS..words_for(end) {
         words[w] |= bits_below(end, w) & !bits_below(start, w);
-        w += 1;
     }
 }

@@ -20,7 +20,7 @@ use Rattle.base.proofs.Sets.{members-at, members-find, members-rising}
 use Rattle.word.specs.Bits.{bit_at, set_bits}
 use Rattle.word.proofs.Bits.{bit-and, lowest, first_bit, zero_bit}
 use Rattle.mask.specs.Mask.{in_mask, IsMask}
-use Rattle.mask.proofs.Masks.{in-word, is-length}
+use Rattle.mask.proofs.Masks.{in-word, is-length, is-fits, is_below}
 
 -- ---- the lowest set bit, and those that are left after `b & (b - 1)`
 
@@ -66,65 +66,85 @@ module _ (b : ℕ) (some : b ≢ 0) (fits : b < 2 ^ 64) where
 
 -- ---- a word
 
-module _ (n : ℕ) (region old : List ℕ) (w : ℕ) where
-  -- the members of word w are counted but for the bits that are left
-  pub record Walked (counts : List ℕ) (bits : ℕ) : Type 0 where
-    pub long : length counts ≡ n
-    pub fits : bits < 2 ^ 64
-    pub member : (j : ℕ) → j < 64 → T (bit_at bits j) → T (in_mask region (64 * w + j))
-    pub here : (j : ℕ) → j < 64 → (T (bit_at bits j) → ⊥) → get_or counts (64 * w + j) 0 ≡ get_or old (64 * w + j) 0 + one_if (in_mask region (64 * w + j))
-    pub still : (j : ℕ) → j < 64 → T (bit_at bits j) → get_or counts (64 * w + j) 0 ≡ get_or old (64 * w + j) 0
-    pub other : (k : ℕ) → k / 64 ≢ w → get_or counts k 0 ≡ get_or old k 0
+-- the members of word w are counted but for the bits that are left
+pub record Walked (n : ℕ) (region old : List ℕ) (w : ℕ) (counts : List ℕ) (bits : ℕ) : Type 0 where
+  pub long : length counts ≡ n
+  pub fits : bits < 2 ^ 64
+  pub member : (j : ℕ) → j < 64 → T (bit_at bits j) → T (in_mask region (64 * w + j))
+  pub here : (j : ℕ) → j < 64 → (T (bit_at bits j) → ⊥) → get_or counts (64 * w + j) 0 ≡ get_or old (64 * w + j) 0 + one_if (in_mask region (64 * w + j))
+  pub still : (j : ℕ) → j < 64 → T (bit_at bits j) → get_or counts (64 * w + j) 0 ≡ get_or old (64 * w + j) 0
+  pub other : (k : ℕ) → k / 64 ≢ w → get_or counts k 0 ≡ get_or old k 0
+  -- the lowest is a node
+  pub next : bits ≢ 0 → (w * 64 + count_trailing_zeros 64 bits < n) × (get_or counts (w * 64 + count_trailing_zeros 64 bits) 0 ≡ get_or old (w * 64 + count_trailing_zeros 64 bits) 0)
 
-  pub walk_start : length old ≡ n → get_or region w 0 < 2 ^ 64 → Walked old (get_or region w 0)
-  walk_start e fits =
+module _ (n : ℕ) (region old : List ℕ) (w : ℕ) (m : IsMask n region) (within : w < length region) where
+  lowest-node : (counts : List ℕ) (bits : ℕ) → bits < 2 ^ 64 → ((j : ℕ) → j < 64 → T (bit_at bits j) → T (in_mask region (64 * w + j)))
+      → ((j : ℕ) → j < 64 → T (bit_at bits j) → get_or counts (64 * w + j) 0 ≡ get_or old (64 * w + j) 0)
+      → bits ≢ 0 → (w * 64 + count_trailing_zeros 64 bits < n) × (get_or counts (w * 64 + count_trailing_zeros 64 bits) 0 ≡ get_or old (w * 64 + count_trailing_zeros 64 bits) 0)
+  lowest-node counts bits fits member still some =
+      let l : count_trailing_zeros 64 bits < 64 = low-lt bits some fits in
+      let e : w * 64 + count_trailing_zeros 64 bits ≡ 64 * w + count_trailing_zeros 64 bits = omega arith in
+      rw e (is_below n region m _ (omega arith) (member _ l (low_in bits some fits)), still _ l (low_in bits some fits))
+
+  pub walk_start : length old ≡ n → Walked n region old w old (get_or region w 0)
+  walk_start e =
       record {
         long = e;
         fits = fits;
-        member = λ j h t. subst (λ (x : Bool). T x) (sym (in-word region w j h)) t;
-        here = λ j h f.
-            let z : one_if (in_mask region (64 * w + j)) ≡ 0 = ap one_if (T_false (in_mask region (64 * w + j)) (λ t. f (subst (λ (x : Bool). T x) (in-word region w j h) t))) in
+        member = member;
+        here = λ j l f.
+            let z : one_if (in_mask region (64 * w + j)) ≡ 0 = ap one_if (T_false (in_mask region (64 * w + j)) (λ t. f (subst (λ (x : Bool). T x) (in-word region w j l) t))) in
             omega arith;
-        still = λ j h t. refl;
+        still = λ j l t. refl;
         other = λ k d. refl;
+        next = lowest-node old (get_or region w 0) fits member (λ j l t. refl);
       }
+    where
+      fits : get_or region w 0 < 2 ^ 64
+      fits = is-fits n region m w within
 
-  module _ (counts : List ℕ) (bits : ℕ) (x : Walked counts bits) (some : bits ≢ 0) where
+      member : (j : ℕ) → j < 64 → T (bit_at (get_or region w 0) j) → T (in_mask region (64 * w + j))
+      member j l t = subst (λ (x : Bool). T x) (sym (in-word region w j l)) t
+
+  module _ (counts : List ℕ) (bits : ℕ) (x : Walked n region old w counts bits) (some : bits ≢ 0) where
     abbrev t : ℕ
     t = count_trailing_zeros 64 bits
 
-    pub walk_low : t < 64
-    walk_low = low-lt bits some x.fits
-
-    -- the lowest bit is a member, not yet counted
-    pub walk_member : T (in_mask region (64 * w + t))
-    walk_member = x.member t walk_low (low_in bits some x.fits)
-
-    pub walk_still : get_or counts (64 * w + t) 0 ≡ get_or old (64 * w + t) 0
-    walk_still = x.still t walk_low (low_in bits some x.fits)
-
     -- it is counted and cleared
-    pub walk_turn : (i : ℕ) → i ≡ 64 * w + t → i < n → Walked (set counts i (get_or counts i 0 + 1)) (bit_and bits (bits - 1))
-    walk_turn i e h =
+    pub walk_turn : (i : ℕ) → i ≡ w * 64 + t → Walked n region old w (set counts i (get_or counts i 0 + 1)) (bit_and bits (bits - 1))
+    walk_turn i e =
         record {
           long = length-set counts i (get_or counts i 0 + 1) ∙ x.long;
-          fits = lt_of_le_of_lt (and_le_l bits (bits - 1)) x.fits;
-          member = λ j l u. x.member j l (rest_in bits some x.fits j u);
+          fits = fits;
+          member = member;
           here = λ j l f. go j l f (ℕ_discrete j t);
-          still = λ j l u. get_or-set_other counts i (64 * w + j) (get_or counts i 0 + 1) 0 (λ d. apart j u d) ∙ x.still j l (rest_in bits some x.fits j u);
+          still = still;
           other = λ k d. get_or-set_other counts i k (get_or counts i 0 + 1) 0 (λ q. away k d q) ∙ x.other k d;
+          next = lowest-node next (bit_and bits (bits - 1)) fits member still;
         }
       where
         next : List ℕ
         next = set counts i (get_or counts i 0 + 1)
+
+        h : i < n
+        h = omega (arith, x.next)
 
         apart : (j : ℕ) → T (bit_at (bit_and bits (bits - 1)) j) → 64 * w + j ≡ i → ⊥
         apart j u d =
             let q : j ≡ t = omega (arith, e) in
             low-out bits some x.fits (subst (λ (y : ℕ). T (bit_at (bit_and bits (bits - 1)) y)) q u)
 
+        fits : bit_and bits (bits - 1) < 2 ^ 64
+        fits = lt_of_le_of_lt (and_le_l bits (bits - 1)) x.fits
+
+        member : (j : ℕ) → j < 64 → T (bit_at (bit_and bits (bits - 1)) j) → T (in_mask region (64 * w + j))
+        member j l u = x.member j l (rest_in bits some x.fits j u)
+
+        still : (j : ℕ) → j < 64 → T (bit_at (bit_and bits (bits - 1)) j) → get_or next (64 * w + j) 0 ≡ get_or old (64 * w + j) 0
+        still j l u = get_or-set_other counts i (64 * w + j) (get_or counts i 0 + 1) 0 (λ d. apart j u d) ∙ x.still j l (rest_in bits some x.fits j u)
+
         away : (k : ℕ) → k / 64 ≢ w → k ≡ i → ⊥
-        away k d q = let u : k / 64 ≡ w = omega (arith, e, walk_low) in d u
+        away k d q = let u : k / 64 ≡ w = omega (arith, low-lt bits some x.fits) in d u
 
         go : (j : ℕ) → j < 64 → (T (bit_at (bit_and bits (bits - 1)) j) → ⊥) → Dec (j ≡ t) → get_or next (64 * w + j) 0 ≡ get_or old (64 * w + j) 0 + one_if (in_mask region (64 * w + j))
         go j l f (yes d) =
@@ -147,9 +167,6 @@ pub record Added (n : ℕ) (region old counts : List ℕ) (w : ℕ) : Type 0 whe
   pub left : (k : ℕ) → 64 * w ≤ k → get_or counts k 0 ≡ get_or old k 0
 
 module _ (n : ℕ) (region old : List ℕ) where
-  pub add_start : length old ≡ n → Added n region old old 0
-  add_start e = record { long = e; done = λ k l. absurd (omega arith); left = λ k l. refl }
-
   pub add_turn : (before counts : List ℕ) (w bits : ℕ) → Added n region old before w → Walked n region before w counts bits → bits ≡ 0 → Added n region old counts (w + 1)
   add_turn before counts w bits a x z =
       record {

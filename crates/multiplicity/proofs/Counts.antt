@@ -1,18 +1,18 @@
 -- A node's multiplicity, region by region, and a list of them. Assumes nothing.
 use mathlib.Core.Path.{◌≡◌, sym, ap, ap₂, ◌∙◌}
 use mathlib.Core.Logic.{◌⊎◌, inl, inr}
-use mathlib.Core.Bool.{Bool, true, false}
+use mathlib.Core.Bool.{true}
 use mathlib.Core.List.{List, ◌++◌}
 use Prim.Native.Nat.{ℕ, ◌+◌, ◌≤◌, ◌<◌}
-use native.Mathlib.Nat.{zero-add, sub-zero}
+use native.Mathlib.Nat.{zero-add}
 use native.Mathlib.Omega.{arith}
-use lib.ListN.{length, get_or, take, drop, replicate, length-replicate, get_or-replicate, get_or-eq_default, get_or-append}
+use lib.ListN.{length, get_or, take, drop, replicate, length-replicate, get_or-replicate, get_or-eq_default}
 use lib.Seq.{ext_get_or}
-use Rattle.base.specs.Lists.{list_from, over, zeroed}
+use Rattle.base.specs.Lists.{list_from}
 use Rattle.base.specs.Sets.{one_if}
 use Rattle.base.proofs.Bools.{T_of, lt-or-le}
-use Rattle.base.proofs.Lists.{length-list_from, get_or-list_from, list_from-cong, zero-length, part-take, part_left}
-use Rattle.base.proofs.Sets.{sum-zero, sum-suc, count-le, count-pos, count-in, count-out}
+use Rattle.base.proofs.Lists.{length-list_from, get_or-list_from, list_from-cong, part-take}
+use Rattle.base.proofs.Sets.{sum-zero, sum-suc, count-le, count-pos}
 use Rattle.mask.specs.Mask.{in_mask}
 use Rattle.multiplicity.specs.Multiplicity.{region_at, holds_in_region, multiplicity_of, multiplicity_stats}
 use Rattle.multiplicity.proofs.Tallies.{stats-cong}
@@ -30,19 +30,13 @@ module _ (n : ℕ) (words : List ℕ) (i : ℕ) where
   unfolding multiplicity_of
   mult-le q = count-le q (λ q. holds_in_region n words q i)
 
-  -- region q holds the node, or does not
-  pub mult-in : (q m : ℕ) (b : Bool) → b ≡ holds_in_region n words q i → b ≡ true → m ≡ multiplicity_of n q words i → m + 1 ≡ multiplicity_of n (q + 1) words i
-  unfolding multiplicity_of
-  mult-in = count-in (λ q. holds_in_region n words q i)
-
-  pub mult-out : (q m : ℕ) (b : Bool) → b ≡ holds_in_region n words q i → b ≡ false → m ≡ multiplicity_of n q words i → m ≡ multiplicity_of n (q + 1) words i
-  unfolding multiplicity_of
-  mult-out = count-out (λ q. holds_in_region n words q i)
-
   -- a node that a region holds is counted
   pub mult-pos : (regions q : ℕ) → q < regions → holds_in_region n words q i ≡ true → 0 < multiplicity_of n regions words i
   unfolding multiplicity_of
   mult-pos regions q h t = count-pos regions (λ q. holds_in_region n words q i) q h (T_of (holds_in_region n words q i) t)
+
+-- what a loop over the regions is proved from
+pub ruleset mult_steps = (mult-none, mult-next, mult-le)
 
 -- ---- a list of multiplicities
 
@@ -59,10 +53,10 @@ module _ (n : ℕ) (words : List ℕ) where
       go (inr h) = omega (arith, get_or-eq_default (list_from (multiplicity_of n regions words) n 0) 0 {n = i} (omega (arith, length-list_from (multiplicity_of n regions words) n 0)))
 
   -- zeros are those of no region
-  pub mults-none : (counts : List ℕ) → length counts ≡ n → zeroed 0 n counts ≡ list_from (multiplicity_of n 0 words) n 0
-  mults-none counts e =
-      ext_get_or 0 (zeroed 0 n counts) (list_from (multiplicity_of n 0 words) n 0) (zero-length 0 counts n (omega arith) (omega arith) ∙ e ∙ sym (length-list_from (multiplicity_of n 0 words) n 0))
-      (λ i l. let h : i < n = omega (arith, zero-length 0 counts n (omega arith) (omega arith)) in ap (λ (k : ℕ). get_or (replicate {A = ℕ} k 0 ++ drop n counts) i 0) (sub-zero n) ∙ get_or-append (replicate {A = ℕ} n 0) (drop n counts) 0 i (omega (arith, length-replicate {A = ℕ} n 0)) ∙ get_or-replicate {A = ℕ} n i 0 0 h ∙ sym (mult-none n words i) ∙ sym (mult-at 0 i h))
+  pub mults-none : (k : ℕ) → k ≡ n → replicate k 0 ≡ list_from (multiplicity_of n 0 words) n 0
+  mults-none k e =
+      ext_get_or 0 (replicate k 0) (list_from (multiplicity_of n 0 words) n 0) (omega (arith, length-replicate {A = ℕ}, length-list_from {A = ℕ}))
+      (λ i l. let h : i < n = omega (arith, length-replicate {A = ℕ}) in get_or-replicate {A = ℕ} k i 0 0 (omega arith) ∙ sym (mult-none n words i) ∙ sym (mult-at 0 i h))
 
   -- one region more
   pub mults-next : (q : ℕ) (l region : List ℕ) → l ≡ list_from (multiplicity_of n q words) n 0 → region ≡ region_at n words q
@@ -74,9 +68,6 @@ module _ (n : ℕ) (words : List ℕ) where
   -- the counts at the front of a lent list
   pub mults-front : (regions : ℕ) (l lent : List ℕ) → l ≡ list_from (multiplicity_of n regions words) n 0 → take n (l ++ drop n lent) ≡ list_from (multiplicity_of n regions words) n 0
   mults-front regions l lent e = part-take l (list_from (multiplicity_of n regions words) n 0) lent n e (sym (length-list_from (multiplicity_of n regions words) n 0))
-
-  pub mults-over : (regions : ℕ) (l lent : List ℕ) → l ≡ list_from (multiplicity_of n regions words) n 0 → l ++ drop n lent ≡ over (list_from (multiplicity_of n regions words) n 0) lent
-  mults-over regions l lent e = part_left l (list_from (multiplicity_of n regions words) n 0) lent n e (sym (length-list_from (multiplicity_of n regions words) n 0))
 
   -- and their statistics
   pub mults-stats : (regions : ℕ) (l : List ℕ) → l ≡ list_from (multiplicity_of n regions words) n 0

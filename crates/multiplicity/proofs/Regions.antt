@@ -1,19 +1,19 @@
 -- Regions in a flat list: the words of each, what it holds, the check of the bits past the nodes, and what acceptance gives. Assumes nothing.
 use mathlib.Core.Path.{◌≡◌, sym, ap, ◌∙◌, subst}
+use Rattle.std.specs.Prelude.{Ok}
 use mathlib.Core.Logic.{◌⊎◌, inl, inr, ◌≢◌}
 use mathlib.Core.Bool.{true, false, not}
 use mathlib.Core.List.{List}
 use Prim.Native.Nat.{ℕ, ◌+◌, ◌-◌, ◌*◌, ◌/◌, ◌%◌, ◌^◌, ◌≤◌, ◌<◌}
 use native.Mathlib.Omega.{arith}
-use native.Mathlib.Nat.{mul-le-mul, mul-le-mul_right}
+use native.Mathlib.Nat.{mul-le-mul_right}
 use borrow.Author.Tests.{leb-true, ltb-true}
 use lib.Bits.{bit_and}
 use lib.Dec.{eqb}
 use lib.ListN.{length, get_or, take, drop, length-take, length-drop, get_or-eq_default}
 use lib.Seq.{length-slice}
-use Rattle.base.specs.Checks.{side_limit, region_limit}
+use Rattle.base.specs.Checks.{side_limit}
 use Rattle.base.specs.Sets.{every_below}
-use Rattle.base.specs.declared.Checked.{Checked}
 use Rattle.base.proofs.Bools.{T_true, T_false, T_of, not-T-of, lt-or-le}
 use Rattle.base.proofs.Checks.{passed, length-passed, both-passed}
 use Rattle.base.proofs.Lists.{get_or-slice, part_slice}
@@ -26,12 +26,8 @@ use Rattle.multiplicity.specs.Multiplicity.{region_at, holds_in_region, regions_
 
 -- ---- places in the flat list
 
-pub part_in : (regions q w : ℕ) → q < regions → q * w + w ≤ regions * w
+part_in : (regions q w : ℕ) → q < regions → q * w + w ≤ regions * w
 part_in regions q w h = omega (arith, mul-le-mul_right {m = q + 1} {n = regions} w (omega arith))
-
--- the places fit a machine number
-pub part-few : (q w : ℕ) → q ≤ region_limit → w ≤ 16384 → q * w ≤ 2 ^ 30
-part-few q w h l = mul-le-mul {n₁ = q} {m₁ = w} {n₂ = region_limit} {m₂ = 16384} h l
 
 module _ (n : ℕ) (words : List ℕ) (q : ℕ) where
   -- the words of region q
@@ -59,10 +55,6 @@ module _ (n : ℕ) (words : List ℕ) (q : ℕ) where
   region-read i h =
       ap (λ (x : ℕ). not (eqb (bit_and x ((1 * 2 ^ (i % 64)) % 2 ^ 64)) 0)) (sym (region-word (i / 64) (omega arith)))
       ∙ bit-read (region_at n words q) i
-
-  -- a node's place
-  pub read-in : (regions i : ℕ) → q < regions → i < n → q * words_needed n + i / 64 < regions * words_needed n
-  read-in regions i h l = omega (arith, part_in regions q (words_needed n) h)
 
 -- ---- the bits past the nodes
 
@@ -96,7 +88,7 @@ module _ (n regions : ℕ) (words : List ℕ) (flat : length words ≡ regions *
 
 -- ---- acceptance
 
-pub accepted-regions : (n regions : ℕ) (words : List ℕ) → ((w : ℕ) → get_or words w 0 < 2 ^ 64) → regions_check n regions words ≡ Checked.Accepted → Regions n regions words
+pub accepted-regions : (n regions : ℕ) (words : List ℕ) → ((w : ℕ) → get_or words w 0 < 2 ^ 64) → regions_check n regions words ≡ Ok tt → Regions n regions words
 unfolding regions_check
 accepted-regions n regions words fits e =
     let a = both-passed _ _ e in
@@ -118,7 +110,7 @@ accepted-regions n regions words fits e =
     }
 
 -- the same where a region and a node are named
-pub accepted-weight : (n regions : ℕ) (words : List ℕ) (region node : ℕ) → ((w : ℕ) → get_or words w 0 < 2 ^ 64) → weight_check n regions words region node ≡ Checked.Accepted
+pub accepted-weight : (n regions : ℕ) (words : List ℕ) (region node : ℕ) → ((w : ℕ) → get_or words w 0 < 2 ^ 64) → weight_check n regions words region node ≡ Ok tt
     → Regions n regions words × (region < regions) × (node < n)
 unfolding weight_check
 accepted-weight n regions words region node fits e =
@@ -127,7 +119,7 @@ accepted-weight n regions words region node fits e =
     (accepted-regions n regions words fits a.0, ltb-true _ _ (passed _ _ b.0), ltb-true _ _ (passed _ _ b.1))
 
 -- and where the counts have room
-pub accepted-counts : (n regions : ℕ) (words out : List ℕ) → ((w : ℕ) → get_or words w 0 < 2 ^ 64) → multiplicity_check n regions words out ≡ Checked.Accepted
+pub accepted-counts : (n regions : ℕ) (words out : List ℕ) → ((w : ℕ) → get_or words w 0 < 2 ^ 64) → multiplicity_check n regions words out ≡ Ok tt
     → Regions n regions words × (n ≤ length out)
 unfolding multiplicity_check
 accepted-counts n regions words out fits e =

@@ -20,12 +20,10 @@ pub fn all_clean(node_count: usize, region_count: usize, words: &[u64]) -> bool
         return true;
     }
     let each = mask::inner::words_for(node_count);
-    let mut q: usize = 0;
-    while q < region_count {
+    for q in 0..region_count {
         if words[q * each + (each - 1)] >> spare != 0 {
             return false;
         }
-        q += 1;
     }
     true
 }
@@ -35,16 +33,14 @@ fn add_region(node_count: usize, region: &[u64], counts: &mut [u32])
     requires { IsMask node_count region.now × (length counts.old ≡ node_count) × ((i : ℕ) → get_or counts.old i 0 < region_limit) }
     ensures { counts.new ≡ list_from (λ i. get_or counts.old i 0 + one_if (in_mask region.now i)) node_count 0 }
 {
-    let mut w: usize = 0;
-    while w < region.len() {
+    for (w, word) in region.iter().enumerate() {
         let first = w * AbtmTopologyWord::BITS;
-        let mut bits = region[w];
+        let mut bits = *word;
         while bits != 0 {
             let i = first + u64::trailing_zeros(bits) as usize;
             counts[i] += 1;
             bits = bits & (bits - 1);
         }
-        w += 1;
     }
 }
 
@@ -53,16 +49,15 @@ pub fn count_regions(node_count: usize, region_count: usize, words: &[u64], coun
     requires { Regions node_count region_count words.now × (length counts.old ≡ node_count) }
     ensures { counts.new ≡ list_from (multiplicity_of node_count region_count words.now) node_count 0 }
 {
-    base::inner::zero(counts, 0, node_count);
+    counts.fill(0);
     let each = mask::inner::words_for(node_count);
-    let mut q: usize = 0;
-    while q < region_count {
+    for q in 0..region_count {
         add_region(node_count, &words[q * each..(q + 1) * each], counts);
-        q += 1;
     }
 }
 
 // The statistics of the counts.
+#[tactic(auto, using(crate::proofs::Tallies::tally_steps))]
 pub fn tally(region_count: usize, counts: &[u32]) -> AbtmRegionMultiplicityStats
     requires { (length counts.now ≤ side_limit) × (region_count ≤ region_limit) × ((i : ℕ) → get_or counts.now i 0 ≤ region_limit) }
     ensures { result ≡ multiplicity_stats (length counts.now) region_count (λ i. get_or counts.now i 0) }
@@ -72,13 +67,9 @@ pub fn tally(region_count: usize, counts: &[u32]) -> AbtmRegionMultiplicityStats
     let mut overlap: u64 = 0;
     let mut most: u32 = 0;
     let mut pairs: u64 = 0;
-    let mut i: usize = 0;
-    while i < counts.len() {
-        let count = counts[i];
-        if count > most {
-            most = count;
-        }
-        let m = count as u64;
+    for count in counts {
+        most = most.max(*count);
+        let m = *count as u64;
         total += m;
         if m > 0 {
             covered += 1;
@@ -87,7 +78,6 @@ pub fn tally(region_count: usize, counts: &[u32]) -> AbtmRegionMultiplicityStats
         if m > 1 {
             overlap += 1;
         }
-        i += 1;
     }
     AbtmRegionMultiplicityStats {
         region_count: region_count as u64,
@@ -120,17 +110,16 @@ pub fn region_holds(
 }
 
 // How many regions hold a node.
+#[tactic(auto, using(crate::proofs::Counts::mult_steps))]
 pub fn multiplicity(node_count: usize, region_count: usize, words: &[u64], node: usize) -> u64
     requires { Regions node_count region_count words.now × (node < node_count) }
     ensures { result ≡ multiplicity_of node_count region_count words.now node }
 {
     let mut m: u64 = 0;
-    let mut q: usize = 0;
-    while q < region_count {
+    for q in 0..region_count {
         if region_holds(node_count, region_count, words, q, node) {
             m += 1;
         }
-        q += 1;
     }
     m
 }

@@ -5,7 +5,7 @@
 ghost use Rattle.std.specs.Prelude.{◌≡◌};
 ghost use Rattle.multiplicity.specs.Multiplicity.{regions_check, multiplicity_check, multiplicity_answer, multiplicity_counts, weight_check, weight_answer};
 
-use base::{Checked, Counted, Refusal};
+use base::Refusal;
 
 pub mod inner;
 
@@ -24,44 +24,39 @@ pub struct AbtmRegionMultiplicityStats {
     pub overlap_fraction_on_covered: f64,
 }
 
-#[derive(Clone, Copy)]
-pub enum RegionsCounted {
-    Stats(AbtmRegionMultiplicityStats),
-    Refused(Refusal),
-}
-
 // The limits, the length of the flat list, the bits past the nodes.
-fn check_regions(node_count: usize, region_count: usize, words: &[u64]) -> Checked
+fn check_regions(node_count: usize, region_count: usize, words: &[u64]) -> Result<(), Refusal>
     ensures { result ≡ regions_check node_count region_count words.now }
 {
     if node_count > base::SIDE_LIMIT {
-        return base::refused(1);
+        return Err(Refusal::OverLimit);
     }
     if region_count > base::REGION_LIMIT {
-        return base::refused(1);
+        return Err(Refusal::OverLimit);
     }
     let need = region_count * mask::inner::words_for(node_count);
     if words.len() != need {
-        return base::wrong_length(need, words.len());
+        return Err(Refusal::wrong_length(need, words.len()));
     }
     if !inner::all_clean(node_count, region_count, words) {
-        return base::refused(12);
+        return Err(Refusal::BitPastLength);
     }
-    Checked::Accepted
+    Ok(())
 }
 
-fn check_counts(node_count: usize, region_count: usize, words: &[u64], counts: &[u32]) -> Checked
+fn check_counts(
+    node_count: usize,
+    region_count: usize,
+    words: &[u64],
+    counts: &[u32],
+) -> Result<(), Refusal>
     ensures { result ≡ multiplicity_check node_count region_count words.now counts.now }
 {
-    match check_regions(node_count, region_count, words) {
-        Checked::Refused(r) => Checked::Refused(r),
-        Checked::Accepted => {
-            if node_count > counts.len() {
-                return base::refused(25);
-            }
-            Checked::Accepted
-        }
+    check_regions(node_count, region_count, words)?;
+    if node_count > counts.len() {
+        return Err(Refusal::ListTooShort);
     }
+    Ok(())
 }
 
 // A count for each node.
@@ -70,17 +65,13 @@ pub fn region_multiplicity(
     region_count: usize,
     words: &[u64],
     counts: &mut [u32],
-) -> RegionsCounted
+) -> Result<AbtmRegionMultiplicityStats, Refusal>
     ensures value { result ≡ multiplicity_answer (multiplicity_check node_count region_count words.now counts.old) node_count region_count words.now }
     ensures counts_after { counts.new ≡ multiplicity_counts (multiplicity_check node_count region_count words.now counts.old) node_count region_count words.now counts.old }
 {
-    match check_counts(node_count, region_count, words, counts) {
-        Checked::Refused(r) => RegionsCounted::Refused(r),
-        Checked::Accepted => {
-            inner::count_regions(node_count, region_count, words, &mut counts[..node_count]);
-            RegionsCounted::Stats(inner::tally(region_count, &counts[..node_count]))
-        }
-    }
+    check_counts(node_count, region_count, words, counts)?;
+    inner::count_regions(node_count, region_count, words, &mut counts[..node_count]);
+    Ok(inner::tally(region_count, &counts[..node_count]))
 }
 
 fn check_weight(
@@ -89,21 +80,17 @@ fn check_weight(
     words: &[u64],
     region: u64,
     node: u64,
-) -> Checked
+) -> Result<(), Refusal>
     ensures { result ≡ weight_check node_count region_count words.now region node }
 {
-    match check_regions(node_count, region_count, words) {
-        Checked::Refused(r) => Checked::Refused(r),
-        Checked::Accepted => {
-            if region >= region_count as u64 {
-                return base::refused(13);
-            }
-            if node >= node_count as u64 {
-                return base::refused(13);
-            }
-            Checked::Accepted
-        }
+    check_regions(node_count, region_count, words)?;
+    if region >= region_count as u64 {
+        return Err(Refusal::OutOfRange);
     }
+    if node >= node_count as u64 {
+        return Err(Refusal::OutOfRange);
+    }
+    Ok(())
 }
 
 // The region's share of the node in parts of 65,536.
@@ -113,24 +100,18 @@ pub fn weight(
     words: &[u64],
     region: u64,
     node: u64,
-) -> Counted
+) -> Result<u64, Refusal>
     ensures { result ≡ weight_answer node_count region_count words.now region node }
 {
-    match check_weight(node_count, region_count, words, region, node) {
-        Checked::Refused(r) => Counted::Refused(r),
-        Checked::Accepted => {
-            if !inner::region_holds(
-                node_count,
-                region_count,
-                words,
-                region as usize,
-                node as usize,
-            ) {
-                return Counted::Count(0);
-            }
-            Counted::Count(
-                65536 / inner::multiplicity(node_count, region_count, words, node as usize),
-            )
-        }
+    check_weight(node_count, region_count, words, region, node)?;
+    if !inner::region_holds(
+        node_count,
+        region_count,
+        words,
+        region as usize,
+        node as usize,
+    ) {
+        return Ok(0);
     }
+    Ok(65536 / inner::multiplicity(node_count, region_count, words, node as usize))
 }

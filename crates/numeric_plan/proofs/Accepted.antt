@@ -1,12 +1,12 @@
 -- What acceptance gives a plan, and its statistics and its room by counts. Assumes nothing.
 use mathlib.Core.Path.{◌≡◌, sym, ◌∙◌, subst}
+use Rattle.std.specs.Prelude.{Ok}
 use mathlib.Core.List.{List}
 use Prim.Native.Nat.{ℕ, ◌^◌, ◌<◌}
 use borrow.Author.Tests.{eqb-true}
 use lib.Ieee.{Float}
 use lib.ListN.{get_or}
 use Rattle.base.specs.Checks.{◌then◌}
-use Rattle.base.specs.declared.Checked.{Checked}
 use Rattle.base.proofs.Checks.{both-passed, passed}
 use Rattle.mask.specs.Mask.{in_mask, IsMask}
 use Rattle.mask.proofs.Masks.{accepted-length}
@@ -28,7 +28,7 @@ pub record Region (rows cols nrows : ℕ) (ptr idx masks ptr2 idx2 masks2 words 
 
 pub accepted-region : (rows cols nrows ncols : ℕ) (ptr idx masks : List ℕ) (pairs nrows2 ncols2 : ℕ) (ptr2 idx2 masks2 : List ℕ) (pairs2 len : ℕ) (words : List ℕ)
     → ((k : ℕ) → get_or masks k 0 < 2 ^ 64) → ((k : ℕ) → get_or masks2 k 0 < 2 ^ 64) → ((k : ℕ) → get_or words k 0 < 2 ^ 64)
-    → region_check (topology_check nrows ncols ptr idx masks pairs nrows2 ncols2 ptr2 idx2 masks2 pairs2 then sides_check nrows ncols rows cols) nrows ncols len words ≡ Checked.Accepted
+    → region_check (topology_check nrows ncols ptr idx masks pairs nrows2 ncols2 ptr2 idx2 masks2 pairs2 then sides_check nrows ncols rows cols) nrows ncols len words ≡ Ok tt
     → Region rows cols nrows ptr idx masks ptr2 idx2 masks2 words
 unfolding region_check sides_check
 accepted-region rows cols nrows ncols ptr idx masks pairs nrows2 ncols2 ptr2 idx2 masks2 pairs2 len words fits fits2 fits3 e =
@@ -50,7 +50,7 @@ pub record Accepts (n : ℕ) (ptr idx masks ptr2 idx2 masks2 words row_ptr col-i
   pub entries : IsValues col-idx values
   pub topology : IsTopology n n ptr idx masks ptr2 idx2 masks2
   pub mask : IsMask n words
-  pub binds : binding_check n (in_mask words) (side_holds ptr idx masks) (stored row_ptr col-idx) ≡ Checked.Accepted
+  pub binds : binding_check n (in_mask words) (side_holds ptr idx masks) (stored row_ptr col-idx) ≡ Ok tt
 
 -- the matrix has the region's side
 pub square-matrix : (rows cols n : ℕ) (row_ptr col-idx : List ℕ) → n ≡ rows → n ≡ cols → IsMatrix rows cols row_ptr col-idx → IsMatrix n n row_ptr col-idx
@@ -59,7 +59,7 @@ square-matrix rows cols n row_ptr col-idx a b m =
 
 pub accepted-inputs : (nrows ncols : ℕ) (ptr idx masks : List ℕ) (pairs nrows2 ncols2 : ℕ) (ptr2 idx2 masks2 : List ℕ) (pairs2 rows cols : ℕ) (row_ptr col-idx : List ℕ) (values : List Float) (len : ℕ) (words : List ℕ)
     → ((k : ℕ) → get_or masks k 0 < 2 ^ 64) → ((k : ℕ) → get_or masks2 k 0 < 2 ^ 64) → ((k : ℕ) → get_or words k 0 < 2 ^ 64)
-    → plan_inputs (matrix_check rows cols row_ptr col-idx values) (topology_check nrows ncols ptr idx masks pairs nrows2 ncols2 ptr2 idx2 masks2 pairs2) rows cols nrows ncols len words (side_holds ptr idx masks) (stored row_ptr col-idx) ≡ Checked.Accepted
+    → plan_inputs (matrix_check rows cols row_ptr col-idx values) (topology_check nrows ncols ptr idx masks pairs nrows2 ncols2 ptr2 idx2 masks2 pairs2) rows cols nrows ncols len words (side_holds ptr idx masks) (stored row_ptr col-idx) ≡ Ok tt
     → Accepts nrows ptr idx masks ptr2 idx2 masks2 words row_ptr col-idx values
 unfolding plan_inputs
 accepted-inputs nrows ncols ptr idx masks pairs nrows2 ncols2 ptr2 idx2 masks2 pairs2 rows cols row_ptr col-idx values len words fits fits2 fits3 e =

@@ -1,5 +1,7 @@
 -- What an accepted binding gives: inside the region the topology's pairs are the matrix's, and how many entries lie there. Assumes nothing.
 use mathlib.Core.Path.{◌≡◌, refl, sym, ap, ◌∙◌}
+use Rattle.std.specs.Prelude.{Ok}
+use Rattle.base.specs.Checks.{Check}
 use mathlib.Core.Bool.{Bool, true, false, not, cond, ◌&&◌}
 use mathlib.Core.List.{List}
 use Prim.Native.Nat.{ℕ, ◌+◌, ◌-◌, ◌≤◌, ◌<◌}
@@ -9,7 +11,6 @@ use borrow.Author.Tests.{eq-eqb, ne_eqb}
 use lib.Dec.{T, eqb}
 use lib.ListN.{length, get_or}
 use Rattle.base.specs.Sets.{any_below, sum_below, sum_over, count_below, one_if}
-use Rattle.base.specs.declared.Checked.{Checked}
 use Rattle.base.proofs.Bools.{bool-ext, T_true, T_of, not-T-of}
 use Rattle.base.proofs.Checks.{passed, both-passed, checks-passed}
 use Rattle.base.proofs.Sets.{any-i, sum-cong, sum-swap, over-le, count-member, get_or-count, members-count, sum-place, sum-if}
@@ -24,7 +25,7 @@ use Rattle.binding.proofs.Sources.{rows-within}
 -- ---- pairs and entries agree
 
 -- a row that passes
-row_same : (n : ℕ) (p pairs entries : ℕ → Bool) → row_faults n p pairs entries ≡ Checked.Accepted → (c : ℕ) → c < n → T (p c) → pairs c ≡ entries c
+row_same : (n : ℕ) (p pairs entries : ℕ → Bool) → row_faults n p pairs entries ≡ Ok tt → (c : ℕ) → c < n → T (p c) → pairs c ≡ entries c
 unfolding row_faults
 row_same n p pairs entries e c l t =
     bool-ext (pairs c) (entries c) (λ a. go (p c) (pairs c) (entries c) t a (none (λ c. p c && pairs c && not (entries c)) (passed _ _ (both-passed _ _ e).0) c l))
@@ -44,14 +45,14 @@ row_same n p pairs entries e c l t =
     go false b d x y f = absurd x
 
 -- inside the region pairs and entries are the same
-pub bound : (n : ℕ) (p : ℕ → Bool) (s entries : ℕ → ℕ → Bool) → binding_check n p s entries ≡ Checked.Accepted → (r c : ℕ) → r < n → T (p r) → c < n → T (p c) → s r c ≡ entries r c
+pub bound : (n : ℕ) (p : ℕ → Bool) (s entries : ℕ → ℕ → Bool) → binding_check n p s entries ≡ Ok tt → (r c : ℕ) → r < n → T (p r) → c < n → T (p c) → s r c ≡ entries r c
 unfolding binding_check
 bound n p s entries e r c l t h u = row_same n p (s r) (entries r) here c h u
   where
-    check : ℕ → Checked
+    check : ℕ → Check
     check x = row_faults n p (s x) (entries x)
 
-    here : check r ≡ Checked.Accepted
+    here : check r ≡ Ok tt
     here = ap check (sym (get_or-count n p r l t)) ∙ checks-passed (count_below n p) (λ k. check (member_at n p k)) e (count_below r p) (count-member n p r l t)
 
 -- ---- how many entries lie inside

@@ -1,5 +1,6 @@
 -- The entries of the pattern's pairs: how many lists there are, which pair each belongs to, and how long they are together. Assumes nothing.
 use mathlib.Core.Path.{◌≡◌, refl, sym, ap, ◌∙◌, subst}
+use Rattle.std.specs.Prelude.{Ok}
 use mathlib.Core.Bool.{Bool}
 use mathlib.Core.List.{List, [], map}
 use Prim.Native.Nat.{ℕ, ◌+◌, ◌-◌, ◌≤◌, ◌<◌}
@@ -10,7 +11,6 @@ use lib.ListN.{length, get_or, length-append, length-map}
 use Rattle.base.specs.Checks.{entry_limit}
 use Rattle.base.specs.Lists.{join_below}
 use Rattle.base.specs.Sets.{sum_below, sum_over, count_below}
-use Rattle.base.specs.declared.Checked.{Checked}
 use Rattle.base.proofs.Bools.{and_l, and_r, T_of}
 use Rattle.base.proofs.Lists.{step_of, get_or-mapped}
 use Rattle.base.proofs.Joins.{join-none, join-next, join-count, join-at, join-sum}
@@ -115,7 +115,7 @@ module _ (n : ℕ) (p : ℕ → Bool) (s : ℕ → ℕ → Bool) (ptr cols : Lis
         subst (λ (x : List ℕ). get_or x i 0 < length cols) (sym q.entries)
         (omega (arith, a.1, m.rises q.row q.row_below, ptr_le n n ptr cols m (q.row + 1) (omega (arith, q.row_below))))
 
-    module _ (accepted : binding_check n p s (stored ptr cols) ≡ Checked.Accepted) where
+    module _ (accepted : binding_check n p s (stored ptr cols) ≡ Ok tt) where
       -- no list is empty
       pub list-some : (j : ℕ) → j < length (pair_entries n p s ptr cols) → 0 < length (entry_list (pair_entries n p s ptr cols) j)
       unfolding entries_in

@@ -1,5 +1,8 @@
 -- The plan of a list of lists: what a gather checks of it holds, and it is direct where it has as many sources as lists. Assumes nothing.
 use mathlib.Core.Path.{◌≡◌, sym, ap, ap₂, ◌∙◌}
+use Rattle.std.specs.Prelude.{Ok}
+use Rattle.base.specs.Checks.{Check}
+use Rattle.base.specs.declared.Refusal.TheVariants.{OverLimit, NotFinite, ListTooShort}
 use mathlib.Core.Bool.{Bool, true}
 use mathlib.Core.List.{List, []}
 use Prim.Native.Nat.{ℕ, ◌+◌, ◌-◌, ◌≤◌, ◌<◌}
@@ -11,7 +14,6 @@ use lib.ListN.{length, get_or, length-append}
 use Rattle.base.specs.Checks.{must, must_be, ◌then◌, entry_limit}
 use Rattle.base.specs.Lists.{every, rising, below, join_below}
 use Rattle.base.specs.Sets.{sum_below}
-use Rattle.base.specs.declared.Checked.{Checked}
 use Rattle.base.proofs.Bools.{bool-ext, T_of, T_true}
 use Rattle.base.proofs.Checks.{pass}
 use Rattle.base.proofs.Lists.{every-at, pairwise-i, step_of, every-all}
@@ -56,19 +58,19 @@ module _ (lists : List (List ℕ)) where
   -- all that a gather checks of it holds: what is left is the values and the room
   pub plan-gathered : (value_len : ℕ) (values out : List Float) → length (plan_sources lists) ≤ entry_limit → every (below value_len) (plan_sources lists) ≡ true
       → gather_check (plan_ptr lists) (plan_sources lists) value_len values out
-      ≡ (must (leb (length values) entry_limit) 1 then must_be value_len (length values) then must (every finite values) 8 then must (leb (length lists) (length out)) 25)
+      ≡ (must (leb (length values) entry_limit) OverLimit then must_be value_len (length values) then must (every finite values) NotFinite then must (leb (length lists) (length out)) ListTooShort)
   unfolding gather_check
   plan-gathered value_len values out few inside =
       let last : length (plan_ptr lists) - 1 ≡ length lists = omega (arith, pointers-length lists) in
       sym
       (pass _ _ _ _ (le-leb (length (plan_sources lists)) entry_limit few)
-      (ap (λ (c : Checked). must (leb (length values) entry_limit) 1 then c)
+      (ap (λ (c : Check). must (leb (length values) entry_limit) OverLimit then c)
       (pass _ _ _ _ (lt-ltb 0 (length (plan_ptr lists)) (omega (arith, pointers-length lists)))
       (pass _ _ _ _ (eq-eqb (get_or (plan_ptr lists) 0 0) 0 plan-starts)
       (pass _ _ _ _ plan-rises
       (pass _ _ _ _ (eq-eqb (get_or (plan_ptr lists) (length (plan_ptr lists) - 1) 0) (length (plan_sources lists)) (ap (λ (k : ℕ). get_or (plan_ptr lists) k 0) last ∙ plan-ends))
       (pass _ _ _ _ inside
-      (ap (λ (k : ℕ). must_be value_len (length values) then must (every finite values) 8 then must (leb k (length out)) 25) (sym last)))))))))
+      (ap (λ (k : ℕ). must_be value_len (length values) then must (every finite values) NotFinite then must (leb k (length out)) ListTooShort) (sym last)))))))))
 
   -- ---- direct plans
 
@@ -102,7 +104,7 @@ module _ (lists : List (List ℕ)) where
 
 -- ---- the plan of a region
 
-module _ (n : ℕ) (p : ℕ → Bool) (s : ℕ → ℕ → Bool) (ptr cols : List ℕ) (m : IsMatrix n n ptr cols) (accepted : binding_check n p s (stored ptr cols) ≡ Checked.Accepted) where
+module _ (n : ℕ) (p : ℕ → Bool) (s : ℕ → ℕ → Bool) (ptr cols : List ℕ) (m : IsMatrix n n ptr cols) (accepted : binding_check n p s (stored ptr cols) ≡ Ok tt) where
   pub pairs-few : pairs_inside n p s ≤ sources_inside n p ptr cols
   pairs-few =
       omega (
@@ -122,5 +124,5 @@ module _ (n : ℕ) (p : ℕ → Bool) (s : ℕ → ℕ → Bool) (ptr cols : Lis
   -- a gather of the matrix's values by it is refused for the values or the room alone
   pub plan-gathers : (values out : List Float)
       → gather_check (plan_ptr (pair_entries n p s ptr cols)) (plan_sources (pair_entries n p s ptr cols)) (length cols) values out
-      ≡ (must (leb (length values) entry_limit) 1 then must_be (length cols) (length values) then must (every finite values) 8 then must (leb (length (pair_entries n p s ptr cols)) (length out)) 25)
+      ≡ (must (leb (length values) entry_limit) OverLimit then must_be (length cols) (length values) then must (every finite values) NotFinite then must (leb (length (pair_entries n p s ptr cols)) (length out)) ListTooShort)
   plan-gathers values out = plan-gathered (pair_entries n p s ptr cols) (length cols) values out (sources-within n p s ptr cols m accepted) plan-sources

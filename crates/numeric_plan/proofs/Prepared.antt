@@ -1,5 +1,8 @@
 -- What a prepared plan hands from step to step: the counts, the room by them, the statistics. Assumes nothing.
 use mathlib.Core.Path.{◌≡◌, refl, sym, ap, ap₂, ◌∙◌, subst}
+use Rattle.std.specs.Prelude.{Ok}
+use Rattle.base.specs.Checks.{Check}
+use Rattle.base.specs.declared.Refusal.TheVariants.{ListTooShort}
 use mathlib.Core.Bool.{Bool}
 use mathlib.Core.List.{List}
 use Prim.Native.Nat.{ℕ, ◌+◌, ◌-◌, ◌*◌, ◌≤◌, ◌<◌}
@@ -9,7 +12,6 @@ use lib.Dec.{eqb, leb, ltb}
 use lib.ListN.{length}
 use Rattle.base.specs.Checks.{must, ◌then◌}
 use Rattle.base.specs.Sets.{count_below}
-use Rattle.base.specs.declared.Checked.{Checked}
 use Rattle.base.proofs.Checks.{both-passed, passed}
 use Rattle.base.proofs.Sets.{count-le}
 use Rattle.csr32.specs.Matrix.{stored, IsMatrix}
@@ -34,7 +36,7 @@ pub record Room (n : ℕ) (p : ℕ → Bool) (s : ℕ → ℕ → Bool) (ptr col
   pub sources_room : length (plan_sources (pair_entries n p s ptr cols)) ≤ length sources
 
 module _ (n : ℕ) (p : ℕ → Bool) (s : ℕ → ℕ → Bool) (ptr cols : List ℕ) where
-  pub plan-fits : (nodes lptr lcols source_ptr sources : List ℕ) → (pattern_room n p s nodes lptr lcols then plan_room (pair_entries n p s ptr cols) source_ptr sources) ≡ Checked.Accepted → Room n p s ptr cols nodes lptr lcols source_ptr sources
+  pub plan-fits : (nodes lptr lcols source_ptr sources : List ℕ) → (pattern_room n p s nodes lptr lcols then plan_room (pair_entries n p s ptr cols) source_ptr sources) ≡ Ok tt → Room n p s ptr cols nodes lptr lcols source_ptr sources
   unfolding plan_room
   plan-fits nodes lptr lcols source_ptr sources e =
       let a = both-passed _ _ e in
@@ -45,7 +47,7 @@ module _ (n : ℕ) (p : ℕ → Bool) (s : ℕ → ℕ → Bool) (ptr cols : Lis
         sources_room = leb-true _ _ (passed _ _ b.1);
       }
 
-  module _ (m : IsMatrix n n ptr cols) (accepted : binding_check n p s (stored ptr cols) ≡ Checked.Accepted) (counts : Counts) (e : counts ≡ counts_of n p s ptr cols) where
+  module _ (m : IsMatrix n n ptr cols) (accepted : binding_check n p s (stored ptr cols) ≡ Ok tt) (counts : Counts) (e : counts ≡ counts_of n p s ptr cols) where
     abbrev lists : List (List ℕ)
     lists = pair_entries n p s ptr cols
 
@@ -54,9 +56,9 @@ module _ (n : ℕ) (p : ℕ → Bool) (s : ℕ → ℕ → Bool) (ptr cols : Lis
       pub plan_fits : plan_room_for counts (length nodes) (length lptr) (length lcols) (length source_ptr) (length sources) ≡ (pattern_room n p s nodes lptr lcols then plan_room (pair_entries n p s ptr cols) source_ptr sources)
       unfolding plan_room_for plan_room
       plan_fits =
-          ap (λ (c : Counts). room_for c.members c.pairs (length nodes) (length lptr) (length lcols) then must (ltb c.pairs (length source_ptr)) 25 then must (leb c.sources (length sources)) 25) e
-          ∙ ap₂ (λ (a b : ℕ). room_for (count_below n p) (pairs_inside n p s) (length nodes) (length lptr) (length lcols) then must (ltb a (length source_ptr)) 25 then must (leb b (length sources)) 25) (sym (lists_length n p s ptr cols)) (sym (sources-length n p s ptr cols m accepted))
-          ∙ ap (λ (c : Checked). c then must (ltb (length lists) (length source_ptr)) 25 then must (leb (length (plan_sources lists)) (length sources)) 25) (room_is n p s nodes lptr lcols (count_below n p) (pairs_inside n p s) refl refl)
+          ap (λ (c : Counts). room_for c.members c.pairs (length nodes) (length lptr) (length lcols) then must (ltb c.pairs (length source_ptr)) ListTooShort then must (leb c.sources (length sources)) ListTooShort) e
+          ∙ ap₂ (λ (a b : ℕ). room_for (count_below n p) (pairs_inside n p s) (length nodes) (length lptr) (length lcols) then must (ltb a (length source_ptr)) ListTooShort then must (leb b (length sources)) ListTooShort) (sym (lists_length n p s ptr cols)) (sym (sources-length n p s ptr cols m accepted))
+          ∙ ap (λ (c : Check). c then must (ltb (length lists) (length source_ptr)) ListTooShort then must (leb (length (plan_sources lists)) (length sources)) ListTooShort) (room_is n p s nodes lptr lcols (count_below n p) (pairs_inside n p s) refl refl)
 
     -- the count of sources is the plan's
     pub counted-sources : counts.sources ≡ length (plan_sources (pair_entries n p s ptr cols))

@@ -1,15 +1,18 @@
 -- Small plans and refusals 22, 10, 23, 24 and 25 by computing the definitions that the contract of `prepare_local_numeric_plan` cites, the checks
 -- of the matrix and of the topology included. Assumes nothing.
 use mathlib.Core.Path.{◌≡◌, refl}
+use Rattle.std.specs.Prelude.{Result, Ok, Err}
+use Rattle.base.specs.Checks.{Check}
+use Rattle.base.specs.declared.Refusal.{Refusal}
+use Rattle.base.specs.declared.Refusal.TheVariants.{NotSquare, SidesDiffer, PairWithoutEntry, EntryWithoutPair, ListTooShort}
 use mathlib.Core.Bool.{Bool, true, false}
 use mathlib.Core.List.{List, [], ◌∷◌}
 use Prim.Native.Nat.{ℕ}
 use lib.Ieee.{Float, binary64, of_bits}
 use lib.ListN.{length, replicate}
-use Rattle.base.specs.Checks.{plain, must, must_be, ◌then◌, checks_below}
+use Rattle.base.specs.Checks.{must, must_be, ◌then◌, checks_below}
 use Rattle.base.specs.Lists.{is_in, list_from, join_below}
 use Rattle.base.specs.Sets.{any_below, first_below, every_below, sum_below, members_from}
-use Rattle.base.specs.declared.Checked.{Checked}
 use Rattle.word.specs.Bits.{bit_at, word_from}
 use Rattle.csr32.specs.Matrix.{matrix_check, stored}
 use Rattle.mask.specs.Mask.{in_mask, clean, shape_check, length_check}
@@ -23,10 +26,9 @@ use Rattle.sources.specs.Sources.{entries_in}
 use Rattle.gather.specs.Plan.{plan_sources, plan_ptr}
 use Rattle.numeric_plan.specs.Plan.{pair_entries, plan_room, sides_check, plan_inputs, plan_check, plan_answer, source_ptr_left, sources_left}
 use Rattle.numeric_plan.specs.declared.AbtmLocalNumericPlanStats.{AbtmLocalNumericPlanStats}
-use Rattle.numeric_plan.specs.declared.PlanPrepared.{PlanPrepared}
 
 -- side 3, the pairs (0,0), (0,1), (1,1), (1,2), (2,0)
-abbrev topology : Checked
+abbrev topology : Check
 topology =
     topology_check 3 3 (0 ∷ 1 ∷ 2 ∷ 3 ∷ []) (0 ∷ 0 ∷ 0 ∷ []) (3 ∷ 6 ∷ 1 ∷ []) 5 3 3 (0 ∷ 1 ∷ 2 ∷ 3 ∷ []) (0 ∷ 0 ∷ 0 ∷ []) (5 ∷ 3 ∷ 2 ∷ []) 5
 
@@ -34,7 +36,7 @@ abbrev holds : ℕ → ℕ → Bool
 holds = side_holds (0 ∷ 1 ∷ 2 ∷ 3 ∷ []) (0 ∷ 0 ∷ 0 ∷ []) (3 ∷ 6 ∷ 1 ∷ [])
 
 -- 2 by 3 without a pair
-abbrev flat : Checked
+abbrev flat : Check
 flat = topology_check 2 3 (0 ∷ 0 ∷ 0 ∷ []) [] [] 0 3 2 (0 ∷ 0 ∷ 0 ∷ 0 ∷ []) [] [] 0
 
 -- 1.0, the value of every entry
@@ -63,11 +65,11 @@ module _ (ptr cols region source_ptr sources : List ℕ) where
   abbrev lists : List (List ℕ)
   lists = pair_entries 3 (in_mask region) holds ptr cols
 
-  abbrev check : Checked
+  abbrev check : Check
   check =
       plan_check (plan_inputs (matrix_check 3 3 ptr cols (replicate (length cols) unit)) topology 3 3 3 3 3 region holds (stored ptr cols)) 3 (in_mask region) holds lists nodes local_ptr columns source_ptr sources
 
-  abbrev answer : PlanPrepared
+  abbrev answer : Result AbtmLocalNumericPlanStats Refusal
   answer = plan_answer check 3 (in_mask region) lists
 
   abbrev nodes_of : List ℕ
@@ -93,7 +95,7 @@ abbrev col_idx : List ℕ
 col_idx = 1 ∷ 0 ∷ 1 ∷ 2 ∷ 1 ∷ 0 ∷ []
 
 -- the answer to another matrix, by region
-abbrev bound : List ℕ → List ℕ → List ℕ → PlanPrepared
+abbrev bound : List ℕ → List ℕ → List ℕ → Result AbtmLocalNumericPlanStats Refusal
 bound ptr cols region = answer ptr cols region starts entries
 
 -- members, pairs, sources, duplicates, whether it is direct, bytes
@@ -109,44 +111,44 @@ stats members pairs terms duplicates direct bytes = record {
 
 pub record Plans : Type 0 where
   -- nodes 0 and 1: the repeated entry gives the pair (0,1) two sources, in stored order; past the needed part the lists are as they were
-  pub front_answer : answer row_ptr col_idx (3 ∷ []) starts entries ≡ PlanPrepared.Prepared (stats 2 3 4 1 false 64)
+  pub front_answer : answer row_ptr col_idx (3 ∷ []) starts entries ≡ Ok (stats 2 3 4 1 false 64)
   pub front_nodes : nodes_of row_ptr col_idx (3 ∷ []) starts entries ≡ 0 ∷ 1 ∷ 23 ∷ 24 ∷ []
   pub front_ptr : ptr_of row_ptr col_idx (3 ∷ []) starts entries ≡ 0 ∷ 2 ∷ 3 ∷ 34 ∷ 35 ∷ []
   pub front_columns : columns_of row_ptr col_idx (3 ∷ []) starts entries ≡ 0 ∷ 1 ∷ 1 ∷ 44 ∷ 45 ∷ 46 ∷ []
   pub front_starts : starts_of row_ptr col_idx (3 ∷ []) starts entries ≡ 0 ∷ 1 ∷ 3 ∷ 4 ∷ 55 ∷ 56 ∷ 57 ∷ []
   pub front_sources : sources_of row_ptr col_idx (3 ∷ []) starts entries ≡ 1 ∷ 0 ∷ 2 ∷ 4 ∷ 65 ∷ 66 ∷ 67 ∷ []
   -- nodes 1 and 2: one source for each pair, by rising column and not as the row stands
-  pub part_answer : answer row_ptr col_idx (6 ∷ []) starts entries ≡ PlanPrepared.Prepared (stats 2 2 2 0 true 48)
+  pub part_answer : answer row_ptr col_idx (6 ∷ []) starts entries ≡ Ok (stats 2 2 2 0 true 48)
   pub part_starts : starts_of row_ptr col_idx (6 ∷ []) starts entries ≡ 0 ∷ 1 ∷ 2 ∷ 54 ∷ 55 ∷ 56 ∷ 57 ∷ []
   pub part_sources : sources_of row_ptr col_idx (6 ∷ []) starts entries ≡ 4 ∷ 3 ∷ 63 ∷ 64 ∷ 65 ∷ 66 ∷ 67 ∷ []
   -- no nodes: direct, and one pointer is written
-  pub none_answer : answer row_ptr col_idx (0 ∷ []) (51 ∷ []) [] ≡ PlanPrepared.Prepared (stats 0 0 0 0 true 8)
+  pub none_answer : answer row_ptr col_idx (0 ∷ []) (51 ∷ []) [] ≡ Ok (stats 0 0 0 0 true 8)
   pub none_starts : starts_of row_ptr col_idx (0 ∷ []) (51 ∷ []) [] ≡ 0 ∷ []
   -- exact lists
   pub exact_starts : starts_of row_ptr col_idx (3 ∷ []) (51 ∷ 52 ∷ 53 ∷ 54 ∷ []) (61 ∷ 62 ∷ 63 ∷ 64 ∷ []) ≡ 0 ∷ 1 ∷ 3 ∷ 4 ∷ []
   pub exact_sources : sources_of row_ptr col_idx (3 ∷ []) (51 ∷ 52 ∷ 53 ∷ 54 ∷ []) (61 ∷ 62 ∷ 63 ∷ 64 ∷ []) ≡ 1 ∷ 0 ∷ 2 ∷ 4 ∷ []
   -- each one too short: 25, and nothing is written
-  pub short_starts : answer row_ptr col_idx (3 ∷ []) (51 ∷ 52 ∷ 53 ∷ []) entries ≡ PlanPrepared.Refused (plain 25)
-  pub short_sources : answer row_ptr col_idx (3 ∷ []) starts (61 ∷ 62 ∷ 63 ∷ []) ≡ PlanPrepared.Refused (plain 25)
+  pub short_starts : answer row_ptr col_idx (3 ∷ []) (51 ∷ 52 ∷ 53 ∷ []) entries ≡ Err ListTooShort
+  pub short_sources : answer row_ptr col_idx (3 ∷ []) starts (61 ∷ 62 ∷ 63 ∷ []) ≡ Err ListTooShort
   pub kept_nodes : nodes_of row_ptr col_idx (3 ∷ []) starts (61 ∷ 62 ∷ 63 ∷ []) ≡ nodes
   pub kept_starts : starts_of row_ptr col_idx (3 ∷ []) starts (61 ∷ 62 ∷ 63 ∷ []) ≡ starts
   pub kept_sources : sources_of row_ptr col_idx (3 ∷ []) starts (61 ∷ 62 ∷ 63 ∷ []) ≡ 61 ∷ 62 ∷ 63 ∷ []
   -- 22: a matrix of side 2; 10: both 2 by 3
-  pub other_sides : plan_inputs (matrix_check 2 2 (0 ∷ 0 ∷ 0 ∷ []) [] []) topology 2 2 3 3 3 (7 ∷ []) holds (stored (0 ∷ 0 ∷ 0 ∷ []) []) ≡ Checked.Refused (plain 22)
-  pub not_square : plan_inputs (matrix_check 2 3 (0 ∷ 0 ∷ 0 ∷ []) [] []) flat 2 3 2 3 2 (0 ∷ []) (side_holds (0 ∷ 0 ∷ 0 ∷ []) [] []) (stored (0 ∷ 0 ∷ 0 ∷ []) []) ≡ Checked.Refused (plain 10)
+  pub other_sides : plan_inputs (matrix_check 2 2 (0 ∷ 0 ∷ 0 ∷ []) [] []) topology 2 2 3 3 3 (7 ∷ []) holds (stored (0 ∷ 0 ∷ 0 ∷ []) []) ≡ Err SidesDiffer
+  pub not_square : plan_inputs (matrix_check 2 3 (0 ∷ 0 ∷ 0 ∷ []) [] []) flat 2 3 2 3 2 (0 ∷ []) (side_holds (0 ∷ 0 ∷ 0 ∷ []) [] []) (stored (0 ∷ 0 ∷ 0 ∷ []) []) ≡ Err NotSquare
   -- 23: no entry (0,1); 24: an entry (1,0)
-  pub no_entry : bound (0 ∷ 1 ∷ 3 ∷ 4 ∷ []) (0 ∷ 2 ∷ 1 ∷ 0 ∷ []) (3 ∷ []) ≡ PlanPrepared.Refused (plain 23)
-  pub no_pair : bound (0 ∷ 3 ∷ 6 ∷ 7 ∷ []) (1 ∷ 0 ∷ 1 ∷ 2 ∷ 1 ∷ 0 ∷ 0 ∷ []) (3 ∷ []) ≡ PlanPrepared.Refused (plain 24)
+  pub no_entry : bound (0 ∷ 1 ∷ 3 ∷ 4 ∷ []) (0 ∷ 2 ∷ 1 ∷ 0 ∷ []) (3 ∷ []) ≡ Err PairWithoutEntry
+  pub no_pair : bound (0 ∷ 3 ∷ 6 ∷ 7 ∷ []) (1 ∷ 0 ∷ 1 ∷ 2 ∷ 1 ∷ 0 ∷ 0 ∷ []) (3 ∷ []) ≡ Err EntryWithoutPair
   -- outside the region neither is asked for
-  pub entry_outside : bound (0 ∷ 1 ∷ 3 ∷ 4 ∷ []) (0 ∷ 2 ∷ 1 ∷ 0 ∷ []) (6 ∷ []) ≡ PlanPrepared.Prepared (stats 2 2 2 0 true 48)
-  pub pair_outside : bound (0 ∷ 3 ∷ 6 ∷ 7 ∷ []) (1 ∷ 0 ∷ 1 ∷ 2 ∷ 1 ∷ 0 ∷ 0 ∷ []) (6 ∷ []) ≡ PlanPrepared.Prepared (stats 2 2 2 0 true 48)
+  pub entry_outside : bound (0 ∷ 1 ∷ 3 ∷ 4 ∷ []) (0 ∷ 2 ∷ 1 ∷ 0 ∷ []) (6 ∷ []) ≡ Ok (stats 2 2 2 0 true 48)
+  pub pair_outside : bound (0 ∷ 3 ∷ 6 ∷ 7 ∷ []) (1 ∷ 0 ∷ 1 ∷ 2 ∷ 1 ∷ 0 ∷ 0 ∷ []) (6 ∷ []) ≡ Ok (stats 2 2 2 0 true 48)
   -- an entry (0,2) and no entry (1,1): the earlier row decides; so too with no entry (0,1) and an entry (1,0)
-  pub pair_first : bound (0 ∷ 4 ∷ 5 ∷ 6 ∷ []) (1 ∷ 0 ∷ 1 ∷ 2 ∷ 2 ∷ 0 ∷ []) (7 ∷ []) ≡ PlanPrepared.Refused (plain 24)
-  pub entry_first : bound (0 ∷ 1 ∷ 4 ∷ 5 ∷ []) (0 ∷ 2 ∷ 1 ∷ 0 ∷ 0 ∷ []) (7 ∷ []) ≡ PlanPrepared.Refused (plain 23)
+  pub pair_first : bound (0 ∷ 4 ∷ 5 ∷ 6 ∷ []) (1 ∷ 0 ∷ 1 ∷ 2 ∷ 2 ∷ 0 ∷ []) (7 ∷ []) ≡ Err EntryWithoutPair
+  pub entry_first : bound (0 ∷ 1 ∷ 4 ∷ 5 ∷ []) (0 ∷ 2 ∷ 1 ∷ 0 ∷ 0 ∷ []) (7 ∷ []) ≡ Err PairWithoutEntry
   -- an entry (1,0) and no entry (1,1): in one row 23 comes first
-  pub one_row : bound (0 ∷ 3 ∷ 5 ∷ 6 ∷ []) (1 ∷ 0 ∷ 1 ∷ 0 ∷ 2 ∷ 0 ∷ []) (7 ∷ []) ≡ PlanPrepared.Refused (plain 23)
+  pub one_row : bound (0 ∷ 3 ∷ 5 ∷ 6 ∷ []) (1 ∷ 0 ∷ 1 ∷ 0 ∷ 2 ∷ 0 ∷ []) (7 ∷ []) ≡ Err PairWithoutEntry
   -- and both come before 25
-  pub before_room : answer (0 ∷ 1 ∷ 3 ∷ 4 ∷ []) (0 ∷ 2 ∷ 1 ∷ 0 ∷ []) (3 ∷ []) [] [] ≡ PlanPrepared.Refused (plain 23)
+  pub before_room : answer (0 ∷ 1 ∷ 3 ∷ 4 ∷ []) (0 ∷ 2 ∷ 1 ∷ 0 ∷ []) (3 ∷ []) [] [] ≡ Err PairWithoutEntry
 
 pub plans : Plans
 unfolding must must_be ◌then◌ checks_below is_in list_from join_below any_below every_below first_below sum_below members_from bit_at word_from in_mask clean shape_check length_check matrix_check stored words_of_row masks_of_row mask_for row_holds limit_check fault_check bits_in lists_agree is_word_inside good_word words_fault side_fault turned first_fault sides_agree topology_fault topology_check local_row pattern_columns pattern_ptr pairs_inside pattern_room region_check row_faults binding_check entries_in plan_sources plan_ptr pair_entries plan_room sides_check plan_inputs plan_check of_bits

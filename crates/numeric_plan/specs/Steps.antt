@@ -1,9 +1,10 @@
 -- What the steps of a plan hand on to one another; no caller of the API needs it.
 use Rattle.std.specs.Prelude.{◌≡◌, Bool, false, List, ℕ, ◌+◌, ◌-◌, ◌*◌, ◌≤◌, ◌<◌, T, eqb, leb, ltb, length, get_or}
+use Rattle.base.specs.Checks.{Check}
+use Rattle.base.specs.declared.Refusal.TheVariants.{ListTooShort}
 use Rattle.base.specs.Checks.{must, ◌then◌, side_limit, entry_limit}
 use Rattle.base.specs.Lists.{join_below}
 use Rattle.base.specs.Sets.{count_below}
-use Rattle.base.specs.declared.Checked.{Checked}
 use Rattle.mask.specs.Mask.{in_mask, words_needed, IsMask}
 use Rattle.pattern.specs.Pattern.{member_at, inside, columns_of, bytes_of_pattern}
 use Rattle.pattern.specs.Steps.{room_for}
@@ -37,9 +38,9 @@ pub record Marked (n : ℕ) (region paired : List ℕ) (s : ℕ → ℕ → Bool
   pub none : (r : ℕ) → r < n → T (in_mask region r) → in_mask paired r ≡ false → count_below n (inside (in_mask region) s r) ≡ 0
 
 -- 25, by the counts
-unfoldable pub plan_room_for : Counts → ℕ → ℕ → ℕ → ℕ → ℕ → Checked
+unfoldable pub plan_room_for : Counts → ℕ → ℕ → ℕ → ℕ → ℕ → Check
 plan_room_for c nodes pointers columns source_pointers sources =
-    room_for c.members c.pairs nodes pointers columns then must (ltb c.pairs source_pointers) 25 then must (leb c.sources sources) 25
+    room_for c.members c.pairs nodes pointers columns then must (ltb c.pairs source_pointers) ListTooShort then must (leb c.sources sources) ListTooShort
 
 -- within what accepted inputs can give
 pub record Small (c : Counts) : Type 0 where

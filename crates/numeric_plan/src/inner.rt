@@ -13,9 +13,9 @@ ghost use Rattle.gather.specs.Plan.{plan_sources, plan_ptr};
 ghost use Rattle.numeric_plan.specs.Plan.{pair_entries, plan_check, plan_answer, source_ptr_left, sources_left};
 ghost use Rattle.numeric_plan.specs.Steps.{row_entries, Tables, RowRoom, Marked, plan_room_for, Small, stats_of};
 
-use crate::{AbtmLocalNumericPlanStats, PlanPrepared};
-use base::Checked;
-use binding::{Binding, Counts};
+use crate::AbtmLocalNumericPlanStats;
+use base::Refusal;
+use binding::Counts;
 use sources::RowEnd;
 
 // The lengths of the lists.
@@ -26,21 +26,17 @@ pub fn check_room(
     columns: usize,
     source_pointers: usize,
     sources: usize,
-) -> Checked
+) -> Result<(), Refusal>
     ensures { result ≡ plan_room_for counts nodes pointers columns source_pointers sources }
 {
-    match pattern::inner::check_room(counts.members, counts.pairs, nodes, pointers, columns) {
-        Checked::Refused(r) => Checked::Refused(r),
-        Checked::Accepted => {
-            if counts.pairs >= source_pointers {
-                return base::refused(25);
-            }
-            if counts.sources > sources {
-                return base::refused(25);
-            }
-            Checked::Accepted
-        }
+    pattern::inner::check_room(counts.members, counts.pairs, nodes, pointers, columns)?;
+    if counts.pairs >= source_pointers {
+        return Err(Refusal::ListTooShort);
     }
+    if counts.sources > sources {
+        return Err(Refusal::ListTooShort);
+    }
+    Ok(())
 }
 
 // With no pair without a source, as many sources as pairs are one each.
@@ -144,7 +140,7 @@ fn write_rows(
     source_ptr: &mut [u32],
     sources: &mut [u32],
 )
-    requires { IsSide n n row_word_ptr.now word_indices.now masks.now × IsMatrix n n row_ptr.now col_idx.now × Tables n region.now ranks.now nodes.now × (binding_check n (in_mask region.now) (side_holds row_word_ptr.now word_indices.now masks.now) (stored row_ptr.now col_idx.now) ≡ Checked.Accepted) × (members ≡ count_below n (in_mask region.now)) × (members < length local_ptr.old) × (pairs_inside n (in_mask region.now) (side_holds row_word_ptr.now word_indices.now masks.now) ≤ length local_cols.old) × (pairs_inside n (in_mask region.now) (side_holds row_word_ptr.now word_indices.now masks.now) < length source_ptr.old) × (terms ≡ length (plan_sources (pair_entries n (in_mask region.now) (side_holds row_word_ptr.now word_indices.now masks.now) row_ptr.now col_idx.now))) × (terms ≤ length sources.old) × Marked n region.now paired.now (side_holds row_word_ptr.now word_indices.now masks.now) }
+    requires { IsSide n n row_word_ptr.now word_indices.now masks.now × IsMatrix n n row_ptr.now col_idx.now × Tables n region.now ranks.now nodes.now × (binding_check n (in_mask region.now) (side_holds row_word_ptr.now word_indices.now masks.now) (stored row_ptr.now col_idx.now) ≡ Ok tt) × (members ≡ count_below n (in_mask region.now)) × (members < length local_ptr.old) × (pairs_inside n (in_mask region.now) (side_holds row_word_ptr.now word_indices.now masks.now) ≤ length local_cols.old) × (pairs_inside n (in_mask region.now) (side_holds row_word_ptr.now word_indices.now masks.now) < length source_ptr.old) × (terms ≡ length (plan_sources (pair_entries n (in_mask region.now) (side_holds row_word_ptr.now word_indices.now masks.now) row_ptr.now col_idx.now))) × (terms ≤ length sources.old) × Marked n region.now paired.now (side_holds row_word_ptr.now word_indices.now masks.now) }
     ensures pointers { local_ptr.new ≡ over (pattern_ptr n (in_mask region.now) (side_holds row_word_ptr.now word_indices.now masks.now)) local_ptr.old }
     ensures columns { local_cols.new ≡ over (pattern_columns n (in_mask region.now) (side_holds row_word_ptr.now word_indices.now masks.now)) local_cols.old }
     ensures starts { source_ptr.new ≡ over (plan_ptr (pair_entries n (in_mask region.now) (side_holds row_word_ptr.now word_indices.now masks.now) row_ptr.now col_idx.now)) source_ptr.old }
@@ -154,8 +150,7 @@ fn write_rows(
     source_ptr[0] = 0;
     let mut pair: usize = 0;
     let mut source: usize = 0;
-    let mut k: usize = 0;
-    while k < members {
+    for k in 0..members {
         let end = write_row(
             n,
             row_word_ptr,
@@ -177,8 +172,7 @@ fn write_rows(
         );
         pair = end.pair;
         source = end.source;
-        k += 1;
-        local_ptr[k] = pair as u32;
+        local_ptr[k + 1] = pair as u32;
     }
 }
 
@@ -200,7 +194,7 @@ fn write_ranked(
     sources: &mut [u32],
     ranks: &mut [u32],
 )
-    requires { IsSide n n row_word_ptr.now word_indices.now masks.now × IsMatrix n n row_ptr.now col_idx.now × IsMask n region.now × (binding_check n (in_mask region.now) (side_holds row_word_ptr.now word_indices.now masks.now) (stored row_ptr.now col_idx.now) ≡ Checked.Accepted) × (count_below n (in_mask region.now) ≤ length nodes.old) × (count_below n (in_mask region.now) < length local_ptr.old) × (pairs_inside n (in_mask region.now) (side_holds row_word_ptr.now word_indices.now masks.now) ≤ length local_cols.old) × (pairs_inside n (in_mask region.now) (side_holds row_word_ptr.now word_indices.now masks.now) < length source_ptr.old) × (terms ≡ length (plan_sources (pair_entries n (in_mask region.now) (side_holds row_word_ptr.now word_indices.now masks.now) row_ptr.now col_idx.now))) × (terms ≤ length sources.old) × Marked n region.now paired.now (side_holds row_word_ptr.now word_indices.now masks.now) × (words_needed n ≤ length ranks.old) }
+    requires { IsSide n n row_word_ptr.now word_indices.now masks.now × IsMatrix n n row_ptr.now col_idx.now × IsMask n region.now × (binding_check n (in_mask region.now) (side_holds row_word_ptr.now word_indices.now masks.now) (stored row_ptr.now col_idx.now) ≡ Ok tt) × (count_below n (in_mask region.now) ≤ length nodes.old) × (count_below n (in_mask region.now) < length local_ptr.old) × (pairs_inside n (in_mask region.now) (side_holds row_word_ptr.now word_indices.now masks.now) ≤ length local_cols.old) × (pairs_inside n (in_mask region.now) (side_holds row_word_ptr.now word_indices.now masks.now) < length source_ptr.old) × (terms ≡ length (plan_sources (pair_entries n (in_mask region.now) (side_holds row_word_ptr.now word_indices.now masks.now) row_ptr.now col_idx.now))) × (terms ≤ length sources.old) × Marked n region.now paired.now (side_holds row_word_ptr.now word_indices.now masks.now) × (words_needed n ≤ length ranks.old) }
     ensures members { nodes.new ≡ over (members_below n (in_mask region.now)) nodes.old }
     ensures pointers { local_ptr.new ≡ over (pattern_ptr n (in_mask region.now) (side_holds row_word_ptr.now word_indices.now masks.now)) local_ptr.old }
     ensures columns { local_cols.new ≡ over (pattern_columns n (in_mask region.now) (side_holds row_word_ptr.now word_indices.now masks.now)) local_cols.old }
@@ -246,7 +240,7 @@ pub fn write(
     source_ptr: &mut [u32],
     sources: &mut [u32],
 )
-    requires { IsSide n n row_word_ptr.now word_indices.now masks.now × IsMatrix n n row_ptr.now col_idx.now × IsMask n region.now × (binding_check n (in_mask region.now) (side_holds row_word_ptr.now word_indices.now masks.now) (stored row_ptr.now col_idx.now) ≡ Checked.Accepted) × (count_below n (in_mask region.now) ≤ length nodes.old) × (count_below n (in_mask region.now) < length local_ptr.old) × (pairs_inside n (in_mask region.now) (side_holds row_word_ptr.now word_indices.now masks.now) ≤ length local_cols.old) × (pairs_inside n (in_mask region.now) (side_holds row_word_ptr.now word_indices.now masks.now) < length source_ptr.old) × (terms ≡ length (plan_sources (pair_entries n (in_mask region.now) (side_holds row_word_ptr.now word_indices.now masks.now) row_ptr.now col_idx.now))) × (terms ≤ length sources.old) × Marked n region.now paired.now (side_holds row_word_ptr.now word_indices.now masks.now) }
+    requires { IsSide n n row_word_ptr.now word_indices.now masks.now × IsMatrix n n row_ptr.now col_idx.now × IsMask n region.now × (binding_check n (in_mask region.now) (side_holds row_word_ptr.now word_indices.now masks.now) (stored row_ptr.now col_idx.now) ≡ Ok tt) × (count_below n (in_mask region.now) ≤ length nodes.old) × (count_below n (in_mask region.now) < length local_ptr.old) × (pairs_inside n (in_mask region.now) (side_holds row_word_ptr.now word_indices.now masks.now) ≤ length local_cols.old) × (pairs_inside n (in_mask region.now) (side_holds row_word_ptr.now word_indices.now masks.now) < length source_ptr.old) × (terms ≡ length (plan_sources (pair_entries n (in_mask region.now) (side_holds row_word_ptr.now word_indices.now masks.now) row_ptr.now col_idx.now))) × (terms ≤ length sources.old) × Marked n region.now paired.now (side_holds row_word_ptr.now word_indices.now masks.now) }
     ensures members { nodes.new ≡ over (members_below n (in_mask region.now)) nodes.old }
     ensures pointers { local_ptr.new ≡ over (pattern_ptr n (in_mask region.now) (side_holds row_word_ptr.now word_indices.now masks.now)) local_ptr.old }
     ensures columns { local_cols.new ≡ over (pattern_columns n (in_mask region.now) (side_holds row_word_ptr.now word_indices.now masks.now)) local_cols.old }
@@ -309,7 +303,7 @@ fn prepare_marked(
     source_ptr: &mut [u32],
     sources: &mut [u32],
     paired: &mut [u64],
-) -> PlanPrepared
+) -> Result<AbtmLocalNumericPlanStats, Refusal>
     requires { IsSide n n row_word_ptr.now word_indices.now masks.now × IsMatrix n n row_ptr.now col_idx.now × IsMask n region.now × (paired.old ≡ replicate (length paired.old) 0) × (words_needed n ≤ length paired.old) }
     ensures value { result ≡ plan_answer (plan_check (binding_check n (in_mask region.now) (side_holds row_word_ptr.now word_indices.now masks.now) (stored row_ptr.now col_idx.now)) n (in_mask region.now) (side_holds row_word_ptr.now word_indices.now masks.now) (pair_entries n (in_mask region.now) (side_holds row_word_ptr.now word_indices.now masks.now) row_ptr.now col_idx.now) nodes.old local_ptr.old local_cols.old source_ptr.old sources.old) n (in_mask region.now) (pair_entries n (in_mask region.now) (side_holds row_word_ptr.now word_indices.now masks.now) row_ptr.now col_idx.now) }
     ensures members { nodes.new ≡ nodes_left (plan_check (binding_check n (in_mask region.now) (side_holds row_word_ptr.now word_indices.now masks.now) (stored row_ptr.now col_idx.now)) n (in_mask region.now) (side_holds row_word_ptr.now word_indices.now masks.now) (pair_entries n (in_mask region.now) (side_holds row_word_ptr.now word_indices.now masks.now) row_ptr.now col_idx.now) nodes.old local_ptr.old local_cols.old source_ptr.old sources.old) n (in_mask region.now) nodes.old }
@@ -319,7 +313,7 @@ fn prepare_marked(
     ensures entries { sources.new ≡ sources_left (plan_check (binding_check n (in_mask region.now) (side_holds row_word_ptr.now word_indices.now masks.now) (stored row_ptr.now col_idx.now)) n (in_mask region.now) (side_holds row_word_ptr.now word_indices.now masks.now) (pair_entries n (in_mask region.now) (side_holds row_word_ptr.now word_indices.now masks.now) row_ptr.now col_idx.now) nodes.old local_ptr.old local_cols.old source_ptr.old sources.old) (pair_entries n (in_mask region.now) (side_holds row_word_ptr.now word_indices.now masks.now) row_ptr.now col_idx.now) sources.old }
 {
     let need = mask::inner::words_for(n);
-    match binding::inner::bind_rows(
+    let counts = binding::inner::bind_rows(
         n,
         row_word_ptr,
         word_indices,
@@ -328,38 +322,32 @@ fn prepare_marked(
         col_idx,
         region,
         &mut paired[..need],
-    ) {
-        Binding::Refused(r) => PlanPrepared::Refused(r),
-        Binding::Bound(counts) => match check_room(
-            counts,
-            nodes.len(),
-            local_ptr.len(),
-            local_cols.len(),
-            source_ptr.len(),
-            sources.len(),
-        ) {
-            Checked::Refused(r) => PlanPrepared::Refused(r),
-            Checked::Accepted => {
-                write(
-                    n,
-                    row_word_ptr,
-                    word_indices,
-                    masks,
-                    region,
-                    &paired[..need],
-                    row_ptr,
-                    col_idx,
-                    counts.sources,
-                    nodes,
-                    local_ptr,
-                    local_cols,
-                    source_ptr,
-                    sources,
-                );
-                PlanPrepared::Prepared(stats(counts))
-            }
-        },
-    }
+    )?;
+    check_room(
+        counts,
+        nodes.len(),
+        local_ptr.len(),
+        local_cols.len(),
+        source_ptr.len(),
+        sources.len(),
+    )?;
+    write(
+        n,
+        row_word_ptr,
+        word_indices,
+        masks,
+        region,
+        &paired[..need],
+        row_ptr,
+        col_idx,
+        counts.sources,
+        nodes,
+        local_ptr,
+        local_cols,
+        source_ptr,
+        sources,
+    );
+    Ok(stats(counts))
 }
 
 // The same with scratch of its own, small for a small side.
@@ -376,7 +364,7 @@ pub fn prepare(
     local_cols: &mut [u32],
     source_ptr: &mut [u32],
     sources: &mut [u32],
-) -> PlanPrepared
+) -> Result<AbtmLocalNumericPlanStats, Refusal>
     requires { IsSide n n row_word_ptr.now word_indices.now masks.now × IsMatrix n n row_ptr.now col_idx.now × IsMask n region.now }
     ensures value { result ≡ plan_answer (plan_check (binding_check n (in_mask region.now) (side_holds row_word_ptr.now word_indices.now masks.now) (stored row_ptr.now col_idx.now)) n (in_mask region.now) (side_holds row_word_ptr.now word_indices.now masks.now) (pair_entries n (in_mask region.now) (side_holds row_word_ptr.now word_indices.now masks.now) row_ptr.now col_idx.now) nodes.old local_ptr.old local_cols.old source_ptr.old sources.old) n (in_mask region.now) (pair_entries n (in_mask region.now) (side_holds row_word_ptr.now word_indices.now masks.now) row_ptr.now col_idx.now) }
     ensures members { nodes.new ≡ nodes_left (plan_check (binding_check n (in_mask region.now) (side_holds row_word_ptr.now word_indices.now masks.now) (stored row_ptr.now col_idx.now)) n (in_mask region.now) (side_holds row_word_ptr.now word_indices.now masks.now) (pair_entries n (in_mask region.now) (side_holds row_word_ptr.now word_indices.now masks.now) row_ptr.now col_idx.now) nodes.old local_ptr.old local_cols.old source_ptr.old sources.old) n (in_mask region.now) nodes.old }

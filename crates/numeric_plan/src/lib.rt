@@ -10,7 +10,7 @@ ghost use Rattle.dual_topology.specs.Check.{topology_check};
 ghost use Rattle.pattern.specs.Pattern.{region_check, nodes_left, ptr_left, columns_left};
 ghost use Rattle.numeric_plan.specs.Plan.{pair_entries, sides_check, plan_inputs, plan_check, plan_answer, source_ptr_left, sources_left};
 
-use base::{Checked, Refusal};
+use base::Refusal;
 
 pub mod inner;
 
@@ -22,12 +22,6 @@ pub struct AbtmLocalNumericPlanStats {
     pub duplicate_source_terms: u32,
     pub direct_source_map: bool,
     pub plan_bytes: u32,
-}
-
-#[derive(Clone, Copy)]
-pub enum PlanPrepared {
-    Prepared(AbtmLocalNumericPlanStats),
-    Refused(Refusal),
 }
 
 // The topology, its sides against the matrix's, its shape, the mask.
@@ -48,10 +42,10 @@ fn check_region(
     matrix_ncols: usize,
     len: usize,
     words: &[u64],
-) -> Checked
+) -> Result<(), Refusal>
     ensures { result ≡ region_check (topology_check nrows ncols row_word_ptr.now row_word_indices.now row_masks.now structural_nnz column_nrows column_ncols column_word_ptr.now column_word_indices.now column_masks.now column_structural_nnz then sides_check nrows ncols matrix_nrows matrix_ncols) nrows ncols len words.now }
 {
-    match dual_topology::validate(
+    dual_topology::validate(
         nrows,
         ncols,
         row_word_ptr,
@@ -64,21 +58,17 @@ fn check_region(
         column_word_indices,
         column_masks,
         column_structural_nnz,
-    ) {
-        Checked::Refused(r) => Checked::Refused(r),
-        Checked::Accepted => {
-            if nrows != matrix_nrows {
-                return base::refused(22);
-            }
-            if ncols != matrix_ncols {
-                return base::refused(22);
-            }
-            if nrows != ncols {
-                return base::refused(10);
-            }
-            mask::inner::check_length(nrows, len, words)
-        }
+    )?;
+    if nrows != matrix_nrows {
+        return Err(Refusal::SidesDiffer);
     }
+    if ncols != matrix_ncols {
+        return Err(Refusal::SidesDiffer);
+    }
+    if nrows != ncols {
+        return Err(Refusal::NotSquare);
+    }
+    mask::inner::check_length(nrows, len, words)
 }
 
 // The local pattern of the region, and for each of its pairs the entries of the matrix that it is summed from.
@@ -107,7 +97,7 @@ pub fn prepare_local_numeric_plan(
     local_col_idx: &mut [u32],
     source_ptr: &mut [u32],
     source_indices: &mut [u32],
-) -> PlanPrepared
+) -> Result<AbtmLocalNumericPlanStats, Refusal>
     ensures value { result ≡ plan_answer (plan_check (plan_inputs (matrix_check matrix_nrows matrix_ncols row_ptr.now col_idx.now values.now) (topology_check nrows ncols row_word_ptr.now row_word_indices.now row_masks.now structural_nnz column_nrows column_ncols column_word_ptr.now column_word_indices.now column_masks.now column_structural_nnz) matrix_nrows matrix_ncols nrows ncols len words.now (side_holds row_word_ptr.now row_word_indices.now row_masks.now) (stored row_ptr.now col_idx.now)) nrows (in_mask words.now) (side_holds row_word_ptr.now row_word_indices.now row_masks.now) (pair_entries nrows (in_mask words.now) (side_holds row_word_ptr.now row_word_indices.now row_masks.now) row_ptr.now col_idx.now) global_nodes.old local_row_ptr.old local_col_idx.old source_ptr.old source_indices.old) nrows (in_mask words.now) (pair_entries nrows (in_mask words.now) (side_holds row_word_ptr.now row_word_indices.now row_masks.now) row_ptr.now col_idx.now) }
     ensures members { global_nodes.new ≡ nodes_left (plan_check (plan_inputs (matrix_check matrix_nrows matrix_ncols row_ptr.now col_idx.now values.now) (topology_check nrows ncols row_word_ptr.now row_word_indices.now row_masks.now structural_nnz column_nrows column_ncols column_word_ptr.now column_word_indices.now column_masks.now column_structural_nnz) matrix_nrows matrix_ncols nrows ncols len words.now (side_holds row_word_ptr.now row_word_indices.now row_masks.now) (stored row_ptr.now col_idx.now)) nrows (in_mask words.now) (side_holds row_word_ptr.now row_word_indices.now row_masks.now) (pair_entries nrows (in_mask words.now) (side_holds row_word_ptr.now row_word_indices.now row_masks.now) row_ptr.now col_idx.now) global_nodes.old local_row_ptr.old local_col_idx.old source_ptr.old source_indices.old) nrows (in_mask words.now) global_nodes.old }
     ensures pointers { local_row_ptr.new ≡ ptr_left (plan_check (plan_inputs (matrix_check matrix_nrows matrix_ncols row_ptr.now col_idx.now values.now) (topology_check nrows ncols row_word_ptr.now row_word_indices.now row_masks.now structural_nnz column_nrows column_ncols column_word_ptr.now column_word_indices.now column_masks.now column_structural_nnz) matrix_nrows matrix_ncols nrows ncols len words.now (side_holds row_word_ptr.now row_word_indices.now row_masks.now) (stored row_ptr.now col_idx.now)) nrows (in_mask words.now) (side_holds row_word_ptr.now row_word_indices.now row_masks.now) (pair_entries nrows (in_mask words.now) (side_holds row_word_ptr.now row_word_indices.now row_masks.now) row_ptr.now col_idx.now) global_nodes.old local_row_ptr.old local_col_idx.old source_ptr.old source_indices.old) nrows (in_mask words.now) (side_holds row_word_ptr.now row_word_indices.now row_masks.now) local_row_ptr.old }
@@ -115,41 +105,37 @@ pub fn prepare_local_numeric_plan(
     ensures starts { source_ptr.new ≡ source_ptr_left (plan_check (plan_inputs (matrix_check matrix_nrows matrix_ncols row_ptr.now col_idx.now values.now) (topology_check nrows ncols row_word_ptr.now row_word_indices.now row_masks.now structural_nnz column_nrows column_ncols column_word_ptr.now column_word_indices.now column_masks.now column_structural_nnz) matrix_nrows matrix_ncols nrows ncols len words.now (side_holds row_word_ptr.now row_word_indices.now row_masks.now) (stored row_ptr.now col_idx.now)) nrows (in_mask words.now) (side_holds row_word_ptr.now row_word_indices.now row_masks.now) (pair_entries nrows (in_mask words.now) (side_holds row_word_ptr.now row_word_indices.now row_masks.now) row_ptr.now col_idx.now) global_nodes.old local_row_ptr.old local_col_idx.old source_ptr.old source_indices.old) (pair_entries nrows (in_mask words.now) (side_holds row_word_ptr.now row_word_indices.now row_masks.now) row_ptr.now col_idx.now) source_ptr.old }
     ensures sources { source_indices.new ≡ sources_left (plan_check (plan_inputs (matrix_check matrix_nrows matrix_ncols row_ptr.now col_idx.now values.now) (topology_check nrows ncols row_word_ptr.now row_word_indices.now row_masks.now structural_nnz column_nrows column_ncols column_word_ptr.now column_word_indices.now column_masks.now column_structural_nnz) matrix_nrows matrix_ncols nrows ncols len words.now (side_holds row_word_ptr.now row_word_indices.now row_masks.now) (stored row_ptr.now col_idx.now)) nrows (in_mask words.now) (side_holds row_word_ptr.now row_word_indices.now row_masks.now) (pair_entries nrows (in_mask words.now) (side_holds row_word_ptr.now row_word_indices.now row_masks.now) row_ptr.now col_idx.now) global_nodes.old local_row_ptr.old local_col_idx.old source_ptr.old source_indices.old) (pair_entries nrows (in_mask words.now) (side_holds row_word_ptr.now row_word_indices.now row_masks.now) row_ptr.now col_idx.now) source_indices.old }
 {
-    match csr32::validate(matrix_nrows, matrix_ncols, row_ptr, col_idx, values) {
-        Checked::Refused(r) => PlanPrepared::Refused(r),
-        Checked::Accepted => match check_region(
-            nrows,
-            ncols,
-            row_word_ptr,
-            row_word_indices,
-            row_masks,
-            structural_nnz,
-            column_nrows,
-            column_ncols,
-            column_word_ptr,
-            column_word_indices,
-            column_masks,
-            column_structural_nnz,
-            matrix_nrows,
-            matrix_ncols,
-            len,
-            words,
-        ) {
-            Checked::Refused(r) => PlanPrepared::Refused(r),
-            Checked::Accepted => inner::prepare(
-                nrows,
-                row_word_ptr,
-                row_word_indices,
-                row_masks,
-                words,
-                row_ptr,
-                col_idx,
-                global_nodes,
-                local_row_ptr,
-                local_col_idx,
-                source_ptr,
-                source_indices,
-            ),
-        },
-    }
+    csr32::validate(matrix_nrows, matrix_ncols, row_ptr, col_idx, values)?;
+    check_region(
+        nrows,
+        ncols,
+        row_word_ptr,
+        row_word_indices,
+        row_masks,
+        structural_nnz,
+        column_nrows,
+        column_ncols,
+        column_word_ptr,
+        column_word_indices,
+        column_masks,
+        column_structural_nnz,
+        matrix_nrows,
+        matrix_ncols,
+        len,
+        words,
+    )?;
+    inner::prepare(
+        nrows,
+        row_word_ptr,
+        row_word_indices,
+        row_masks,
+        words,
+        row_ptr,
+        col_idx,
+        global_nodes,
+        local_row_ptr,
+        local_col_idx,
+        source_ptr,
+        source_indices,
+    )
 }

@@ -1,12 +1,12 @@
 -- What acceptance gives a pattern: a square topology, a mask of its length, lists that reach their needed lengths. Assumes nothing.
 use mathlib.Core.Path.{◌≡◌, sym, ap, ap₂, ◌∙◌, subst}
+use Rattle.std.specs.Prelude.{Ok}
 use mathlib.Core.Bool.{Bool}
 use mathlib.Core.List.{List}
 use Prim.Native.Nat.{ℕ, ◌^◌, ◌≤◌, ◌<◌}
 use borrow.Author.Tests.{eqb-true, leb-true, ltb-true}
 use lib.ListN.{length, get_or}
 use Rattle.base.specs.Sets.{count_below}
-use Rattle.base.specs.declared.Checked.{Checked}
 use Rattle.base.proofs.Checks.{both-passed, passed}
 use Rattle.mask.specs.Mask.{in_mask, IsMask}
 use Rattle.mask.proofs.Masks.{accepted-length}
@@ -23,7 +23,7 @@ pub record Accepts (n : ℕ) (ptr idx masks ptr2 idx2 masks2 region : List ℕ) 
 
 pub accepted-region : (nrows ncols : ℕ) (ptr idx masks : List ℕ) (pairs nrows2 ncols2 : ℕ) (ptr2 idx2 masks2 : List ℕ) (pairs2 len : ℕ) (region : List ℕ)
     → ((k : ℕ) → get_or masks k 0 < 2 ^ 64) → ((k : ℕ) → get_or masks2 k 0 < 2 ^ 64) → ((k : ℕ) → get_or region k 0 < 2 ^ 64)
-    → region_check (topology_check nrows ncols ptr idx masks pairs nrows2 ncols2 ptr2 idx2 masks2 pairs2) nrows ncols len region ≡ Checked.Accepted
+    → region_check (topology_check nrows ncols ptr idx masks pairs nrows2 ncols2 ptr2 idx2 masks2 pairs2) nrows ncols len region ≡ Ok tt
     → Accepts nrows ptr idx masks ptr2 idx2 masks2 region
 unfolding region_check
 accepted-region nrows ncols ptr idx masks pairs nrows2 ncols2 ptr2 idx2 masks2 pairs2 len region fits fits2 fits3 e =
@@ -42,7 +42,7 @@ module _ (n : ℕ) (p : ℕ → Bool) (s : ℕ → ℕ → Bool) (nodes ptr cols
     pub ptr_room : count_below n p < length ptr
     pub columns_room : pairs_inside n p s ≤ length cols
 
-  pub room_fits : pattern_room n p s nodes ptr cols ≡ Checked.Accepted → Fits
+  pub room_fits : pattern_room n p s nodes ptr cols ≡ Ok tt → Fits
   unfolding pattern_room
   room_fits e =
       let a = both-passed _ _ e in
@@ -60,7 +60,7 @@ module _ (n : ℕ) (p : ℕ → Bool) (s : ℕ → ℕ → Bool) (nodes ptr cols
 -- a whole call that was accepted
 pub accepted-pattern : (nrows ncols : ℕ) (ptr idx masks : List ℕ) (pairs nrows2 ncols2 : ℕ) (ptr2 idx2 masks2 : List ℕ) (pairs2 len : ℕ) (region : List ℕ) (s : ℕ → ℕ → Bool) (nodes starts cols : List ℕ)
     → ((k : ℕ) → get_or masks k 0 < 2 ^ 64) → ((k : ℕ) → get_or masks2 k 0 < 2 ^ 64) → ((k : ℕ) → get_or region k 0 < 2 ^ 64)
-    → pattern_check (topology_check nrows ncols ptr idx masks pairs nrows2 ncols2 ptr2 idx2 masks2 pairs2) nrows ncols len region s nodes starts cols ≡ Checked.Accepted
+    → pattern_check (topology_check nrows ncols ptr idx masks pairs nrows2 ncols2 ptr2 idx2 masks2 pairs2) nrows ncols len region s nodes starts cols ≡ Ok tt
     → Accepts nrows ptr idx masks ptr2 idx2 masks2 region × Fits nrows (in_mask region) s nodes starts cols
 unfolding pattern_check
 accepted-pattern nrows ncols ptr idx masks pairs nrows2 ncols2 ptr2 idx2 masks2 pairs2 len region s nodes starts cols fits fits2 fits3 e =

@@ -19,15 +19,7 @@ use Rattle.side.proofs.Sides.{own-words, own-pairs}
 use Rattle.pattern.specs.Pattern.{inside, pairs_inside}
 use Rattle.pattern.specs.Steps.{kept_of_row, region_kept, Small}
 use Rattle.pattern.specs.declared.RowKept.{RowKept}
-use Rattle.pattern.specs.declared.RegionKept.{RegionKept}
 use Rattle.pattern.proofs.Walks.{sum_first, sum-turn, count-first, count_turn, sum_room}
-
-abbrev pub counts : ℕ → ℕ → ℕ → ℕ → RegionKept
-counts a b c d = record { members = a; words = b; candidates = c; kept = d }
-
-same-counts : (a a' b b' c c' d d' : ℕ) → a ≡ a' → b ≡ b' → c ≡ c' → d ≡ d' → counts a b c d ≡ counts a' b' c' d'
-same-counts a a' b b' c c' d d' p q r s =
-    ap (λ (x : ℕ). counts x b c d) p ∙ ap (λ (x : ℕ). counts a' x c d) q ∙ ap (λ (x : ℕ). counts a' b' x d) r ∙ ap (λ (x : ℕ). counts a' b' c' x) s
 
 -- the members below r are counted
 pub record Walked (n : ℕ) (s : ℕ → ℕ → Bool) (region : List ℕ) (members words candidates kept r : ℕ) : Type 0 where
@@ -37,6 +29,11 @@ pub record Walked (n : ℕ) (s : ℕ → ℕ → Bool) (region : List ℕ) (memb
   pub by_words : words ≡ sum_over r (in_mask region) (λ i. length (words_of_row n (s i)))
   pub by_candidates : candidates ≡ sum_over r (in_mask region) (λ i. count_below n (s i))
   pub by_kept : kept ≡ sum_over r (in_mask region) (λ i. count_below n (inside (in_mask region) s i))
+  -- what comes next keeps them small
+  pub few_members : r < n → members < side_limit
+  pub few_words : r < n → words + length (words_of_row n (s r)) ≤ entry_limit
+  pub few_candidates : r < n → candidates + count_below n (s r) ≤ entry_limit
+  pub few_kept : r < n → kept + count_below n (inside (in_mask region) s r) ≤ entry_limit
 
 module _ (n : ℕ) (ptr idx masks : List ℕ) (m : IsSide n n ptr idx masks) where
   abbrev s : ℕ → ℕ → Bool
@@ -65,47 +62,39 @@ module _ (n : ℕ) (ptr idx masks : List ℕ) (m : IsSide n n ptr idx masks) whe
     abbrev p : ℕ → Bool
     p = in_mask region
 
-    pub walk_first : (r : ℕ) → Next n region 0 r → Walked n s region 0 0 0 0 r
-    walk_first r next =
+    walked : (members words candidates kept r : ℕ) → r ≤ n → (r < n → T (p r)) → members ≡ count_below r p → words ≡ sum_over r p (λ i. length (words_of_row n (s i)))
+        → candidates ≡ sum_over r p (λ i. count_below n (s i)) → kept ≡ sum_over r p (λ i. count_below n (inside p s i)) → Walked n s region members words candidates kept r
+    walked members words candidates kept r within member a b d e =
         record {
-          within = next.within;
-          member = next.member;
-          many = count-first n region r next;
-          by_words = sum_first n region r (λ i. length (words_of_row n (s i))) next;
-          by_candidates = sum_first n region r (λ i. count_below n (s i)) next;
-          by_kept = sum_first n region r (λ i. count_below n (inside p s i)) next;
+          within = within;
+          member = member;
+          many = a;
+          by_words = b;
+          by_candidates = d;
+          by_kept = e;
+          few_members = λ l. omega (arith, count-le r p, m.few_cols);
+          few_words = λ l. omega (arith, sum_room n region r (λ i. length (words_of_row n (s i))) l, words-within);
+          few_candidates = λ l. omega (arith, sum_room n region r (λ i. count_below n (s i)) l, bits-within);
+          few_kept = λ l. omega (arith, sum_room n region r (λ i. count_below n (inside p s i)) l, kept-within p);
         }
 
-    pub walk-last : (members words candidates kept r : ℕ) → Walked n s region members words candidates kept r → n ≤ r → counts members words candidates kept ≡ region_kept n p s
-    unfolding pairs_inside
-    walk-last members words candidates kept r w l =
-        let e : r ≡ n = omega (arith, w.within) in
-        same-counts members _ words _ candidates _ kept _
-        (w.many ∙ ap (λ (k : ℕ). count_below k p) e)
-        (w.by_words ∙ ap (λ (k : ℕ). sum_over k p (λ i. length (words_of_row n (s i)))) e)
-        (w.by_candidates ∙ ap (λ (k : ℕ). sum_over k p (λ i. count_below n (s i))) e)
-        (w.by_kept ∙ ap (λ (k : ℕ). sum_over k p (λ i. count_below n (inside p s i))) e)
+    pub walk_first : (r : ℕ) → Next n region 0 r → Walked n s region 0 0 0 0 r
+    walk_first r next =
+        walked 0 0 0 0 r next.within next.member (count-first n region r next)
+        (sum_first n region r (λ i. length (words_of_row n (s i))) next)
+        (sum_first n region r (λ i. count_below n (s i)) next)
+        (sum_first n region r (λ i. count_below n (inside p s i)) next)
 
-    module _ (members words candidates kept r : ℕ) (w : Walked n s region members words candidates kept r) (l : r < n) (row : RowKept) (e : row ≡ kept_of_row n p s r) where
-      pub members-fit : members < side_limit
-      members-fit = omega (arith, w.many, count-le r p, m.few_cols)
+    module _ (members words candidates kept r : ℕ) (w : Walked n s region members words candidates kept r) where
+      pub walk-last : n ≤ r → record { members = members; words = words; candidates = candidates; kept = kept } ≡ region_kept n p s
+      unfolding pairs_inside
+      walk-last l = let e : r ≡ n = omega (arith, w.within) in cc (w.many, w.by_words, w.by_candidates, w.by_kept)
 
-      pub words-fit : words + row.words ≤ entry_limit
-      words-fit = let f : row.words ≡ length (words_of_row n (s r)) = ap (λ (t : RowKept). t.words) e in omega (arith, w.by_words, f, sum_room n region r (λ i. length (words_of_row n (s i))) l, words-within)
-
-      pub candidates-fit : candidates + row.candidates ≤ entry_limit
-      candidates-fit = let f : row.candidates ≡ count_below n (s r) = ap (λ (t : RowKept). t.candidates) e in omega (arith, w.by_candidates, f, sum_room n region r (λ i. count_below n (s i)) l, bits-within)
-
-      pub kept-fit : kept + row.kept ≤ entry_limit
-      kept-fit = let f : row.kept ≡ count_below n (inside p s r) = ap (λ (t : RowKept). t.kept) e in omega (arith, w.by_kept, f, sum_room n region r (λ i. count_below n (inside p s i)) l, kept-within p)
-
-      pub walk_turn : (r' : ℕ) → Next n region (r + 1) r' → Walked n s region (members + 1) (words + row.words) (candidates + row.candidates) (kept + row.kept) r'
-      walk_turn r' next =
-          record {
-            within = next.within;
-            member = next.member;
-            many = ap (λ (x : ℕ). x + 1) w.many ∙ count_turn n region r r' (w.member l) next;
-            by_words = ap₂ ◌+◌ w.by_words (ap (λ (t : RowKept). t.words) e) ∙ sum-turn n region r r' (λ i. length (words_of_row n (s i))) (w.member l) next;
-            by_candidates = ap₂ ◌+◌ w.by_candidates (ap (λ (t : RowKept). t.candidates) e) ∙ sum-turn n region r r' (λ i. count_below n (s i)) (w.member l) next;
-            by_kept = ap₂ ◌+◌ w.by_kept (ap (λ (t : RowKept). t.kept) e) ∙ sum-turn n region r r' (λ i. count_below n (inside p s i)) (w.member l) next;
-          }
+      pub walk_turn : r < n → (row : RowKept) → row ≡ kept_of_row n p s r → (r' : ℕ) → Next n region (r + 1) r'
+          → Walked n s region (members + 1) (words + row.words) (candidates + row.candidates) (kept + row.kept) r'
+      walk_turn l row e r' next =
+          walked (members + 1) (words + row.words) (candidates + row.candidates) (kept + row.kept) r' next.within next.member
+          (ap (λ (x : ℕ). x + 1) w.many ∙ count_turn n region r r' (w.member l) next)
+          (ap₂ ◌+◌ w.by_words (ap (λ (t : RowKept). t.words) e) ∙ sum-turn n region r r' (λ i. length (words_of_row n (s i))) (w.member l) next)
+          (ap₂ ◌+◌ w.by_candidates (ap (λ (t : RowKept). t.candidates) e) ∙ sum-turn n region r r' (λ i. count_below n (s i)) (w.member l) next)
+          (ap₂ ◌+◌ w.by_kept (ap (λ (t : RowKept). t.kept) e) ∙ sum-turn n region r r' (λ i. count_below n (inside p s i)) (w.member l) next)

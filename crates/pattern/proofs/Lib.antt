@@ -1,4 +1,5 @@
-pub mod Fits
+pub mod Ranks
+pub mod Coming
 pub mod Words
 pub mod Rows
 pub mod Walks

@@ -3,20 +3,21 @@ use mathlib.Core.Path.{◌≡◌, sym, ap, ap₂, ◌∙◌}
 use mathlib.Core.Bool.{Bool, ◌&&◌, and_comm}
 use mathlib.Core.List.{List, map, ◌++◌}
 use Prim.Native.Nat.{ℕ, ◌+◌, ◌-◌, ◌*◌, ◌/◌, ◌%◌, ◌≤◌, ◌<◌}
+use native.Mathlib.Nat.{add-zero}
 use native.Mathlib.Omega.{arith}
 use lib.Bits.{bit_and}
 use lib.Dec.{T}
-use lib.ListN.{get_or, length, length-map}
+use lib.ListN.{get_or, length}
 use Rattle.base.specs.Lists.{join_below}
 use Rattle.base.specs.Sets.{members_below, count_below, sum_below}
 use Rattle.base.proofs.Bools.{and_r}
 use Rattle.base.proofs.Lists.{map-two}
-use Rattle.base.proofs.Joins.{map-join, join-next, join-count, join-cong}
-use Rattle.base.proofs.Sets.{map-alike, members-ext, count-cong, count-le, sum-zero, sum-suc, sum-cong, sum-most, sum_mono, sum-append, count-members}
+use Rattle.base.proofs.Joins.{map-join, join-append, join-cong}
+use Rattle.base.proofs.Sets.{map-alike, members-ext, count-cong, count-le, sum-zero, sum-suc, sum-cong, sum-most, sum-append}
 use Rattle.word.specs.Bits.{bit_at, set_bits}
 use Rattle.word.proofs.Bits.{bit-and}
 use Rattle.mask.specs.Mask.{in_mask, words_needed, IsMask}
-use Rattle.mask.proofs.Masks.{in-word}
+use Rattle.mask.proofs.Masks.{in-word, is-length}
 use Rattle.side.specs.Side.{side_holds}
 use Rattle.side.specs.Check.{IsSide}
 use Rattle.side.proofs.AtRow.{at_up, at_words, at-masks}
@@ -34,10 +35,14 @@ kept_word idx masks region k = bit_and (get_or masks k 0) (get_or region (get_or
 unfoldable pub kept_in : List ℕ → List ℕ → List ℕ → ℕ → ℕ → ℕ
 kept_in idx masks region from k = sum_below (k - from) (λ j. count_below 64 (bit_at (kept_word idx masks region (from + j))))
 
--- the numbers of the columns inside, of the word at place from + j
+-- the numbers of the columns inside, of the word at place k
+abbrev pub numbers_of : List ℕ → List ℕ → List ℕ → ℕ → List ℕ
+numbers_of idx masks region k =
+    map (λ (b : ℕ). count_below (64 * get_or idx k 0) (in_mask region) + count_below b (bit_at (get_or region (get_or idx k 0) 0))) (set_bits (kept_word idx masks region k))
+
+-- of the word at place from + j
 abbrev pub numbers_at : List ℕ → List ℕ → List ℕ → ℕ → ℕ → List ℕ
-numbers_at idx masks region from j =
-    map (λ (b : ℕ). count_below (64 * get_or idx (from + j) 0) (in_mask region) + count_below b (bit_at (get_or region (get_or idx (from + j) 0) 0))) (set_bits (kept_word idx masks region (from + j)))
+numbers_at idx masks region from j = numbers_of idx masks region (from + j)
 
 module _ (idx masks region : List ℕ) (from : ℕ) where
   pub kept-none : kept_in idx masks region from from ≡ 0
@@ -53,29 +58,19 @@ module _ (idx masks region : List ℕ) (from : ℕ) where
       ∙ sum-suc (k - from) (λ j. count_below 64 (bit_at (kept_word idx masks region (from + j))))
       ∙ ap (λ (x : ℕ). kept_in idx masks region from k + count_below 64 (bit_at (kept_word idx masks region x))) e
 
-  pub kept-up : (k to : ℕ) → k ≤ to → kept_in idx masks region from k ≤ kept_in idx masks region from to
-  unfolding kept_in
-  kept-up k to h = sum_mono (k - from) (to - from) (λ j. count_below 64 (bit_at (kept_word idx masks region (from + j)))) (omega arith)
-
-  pub numbers-next : (k : ℕ) → from ≤ k
-      → join_below (k + 1 - from) (numbers_at idx masks region from) ≡ join_below (k - from) (numbers_at idx masks region from)
-      ++ map (λ (b : ℕ). count_below (64 * get_or idx k 0) (in_mask region) + count_below b (bit_at (get_or region (get_or idx k 0) 0))) (set_bits (kept_word idx masks region k))
-  numbers-next k h =
-      let z : k + 1 - from ≡ (k - from) + 1 = omega arith in
-      let e : from + (k - from) ≡ k = omega arith in
-      ap (λ (x : ℕ). join_below x (numbers_at idx masks region from)) z ∙ join-next (k - from) (numbers_at idx masks region from)
-      ∙ ap (λ (x : ℕ). join_below (k - from) (numbers_at idx masks region from) ++ map (λ (b : ℕ). count_below (64 * get_or idx x 0) (in_mask region) + count_below b (bit_at (get_or region (get_or idx x 0) 0))) (set_bits (kept_word idx masks region x))) e
-
-  pub numbers-length : (k : ℕ) → length (join_below (k - from) (numbers_at idx masks region from)) ≡ kept_in idx masks region from k
-  unfolding kept_in
-  numbers-length k =
-      join-count (k - from) (numbers_at idx masks region from)
-      ∙ sum-cong (k - from) (λ j. length (numbers_at idx masks region from j)) (λ j. count_below 64 (bit_at (kept_word idx masks region (from + j))))
-      (λ j l. length-map (set_bits (kept_word idx masks region (from + j))) _ ∙ count-members 64 (bit_at (kept_word idx masks region (from + j))))
-
   pub kept-le : (k : ℕ) → kept_in idx masks region from k ≤ 64 * (k - from)
   unfolding kept_in
   kept-le k = sum-most (k - from) 64 (λ j. count_below 64 (bit_at (kept_word idx masks region (from + j)))) (λ j l. count-le 64 (bit_at (kept_word idx masks region (from + j))))
+
+-- the first word's numbers, and the others'
+pub numbers_turn : (idx masks region : List ℕ) (from to : ℕ) → from < to
+    → join_below (to - from) (numbers_at idx masks region from) ≡ numbers_of idx masks region from ++ join_below (to - (from + 1)) (numbers_at idx masks region (from + 1))
+unfolding join_below
+numbers_turn idx masks region from to h =
+    let z : to - from ≡ 1 + (to - (from + 1)) = omega arith in
+    ap (λ (x : ℕ). join_below x (numbers_at idx masks region from)) z ∙ join-append 1 (to - (from + 1)) (numbers_at idx masks region from)
+    ∙ ap₂ (λ (x y : List ℕ). x ++ y) (ap (numbers_of idx masks region) (add-zero from))
+    (join-cong (to - (from + 1)) (λ j. numbers_at idx masks region from (1 + j)) (numbers_at idx masks region (from + 1)) (λ j l. ap (numbers_of idx masks region) (omega arith)))
 
 -- a node's number: the members before its word, and those before its bit in the word
 pub number-at : (region : List ℕ) (w b : ℕ) → b < 64 → number_of (in_mask region) (64 * w + b) ≡ count_below (64 * w) (in_mask region) + count_below b (bit_at (get_or region w 0))
@@ -112,6 +107,11 @@ module _ (n : ℕ) (ptr idx masks region : List ℕ) (side : IsSide n n ptr idx 
 
   pub row_word : (k : ℕ) → k < hi → get_or idx k 0 < words_needed n
   row_word k z = let l : k < length masks = omega (arith, at-masks _ _ _ _ _ side r h) in inside-word _ _ _ (side.fits k l) (side.inside k l) (side.used k l)
+
+  -- it is stored, and stands at a word of the region
+  pub row_place : (k : ℕ) → k < hi → (k < length masks) × (k < length idx) × (get_or idx k 0 < length region)
+  row_place k z =
+      (omega (arith, at-masks _ _ _ _ _ side r h), omega (arith, at_words _ _ _ _ _ side r h), omega (arith, row_word k z, is-length n region mask))
 
   pub row_kept : count_below n q ≡ kept_in idx masks region lo hi
   unfolding kept_in

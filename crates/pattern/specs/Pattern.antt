@@ -1,17 +1,19 @@
 -- extract_local_submatrix_pattern: the topology, 10, the mask, 25; the local system of a region. The region is a set p of nodes below n, the
 -- topology a set s of pairs.
 use Rattle.std.specs.Prelude.{Bool, false, cond, ◌&&◌, List, map, ℕ, ◌+◌, ◌*◌, eqb, leb, ltb, Float, pos, length, get_or}
+use Rattle.std.specs.Prelude.{Result}
+use Rattle.base.specs.Checks.{Check, answer}
+use Rattle.base.specs.declared.Refusal.{Refusal}
+use Rattle.base.specs.declared.Refusal.TheVariants.{NotSquare, ListTooShort}
 use Rattle.std.specs.Float.{fin, binary64}
 use Rattle.std.specs.Float.Ieee.{sub, of_bits}
 use Rattle.base.specs.Checks.{must, ◌then◌, after, leaves}
 use Rattle.base.specs.Lists.{list_from, join_below, over}
 use Rattle.base.specs.Sets.{count_below, sum_over, members_below}
-use Rattle.base.specs.declared.Checked.{Checked}
 use Rattle.mask.specs.Mask.{in_mask, length_check}
 use Rattle.side.specs.Side.{words_of_row}
 use Rattle.topology.specs.Statistics.{ratio}
 use Rattle.pattern.specs.declared.AbtmLocalSubmatrixPatternStats.{AbtmLocalSubmatrixPatternStats}
-use Rattle.pattern.specs.declared.PatternExtracted.{PatternExtracted}
 
 -- ---- members
 
@@ -52,17 +54,17 @@ pairs_inside n p s = sum_over n p (λ r. count_below n (inside p s r))
 -- ---- the call
 
 -- 25: exact counts are needed lengths
-unfoldable pub pattern_room : ℕ → (ℕ → Bool) → (ℕ → ℕ → Bool) → List ℕ → List ℕ → List ℕ → Checked
+unfoldable pub pattern_room : ℕ → (ℕ → Bool) → (ℕ → ℕ → Bool) → List ℕ → List ℕ → List ℕ → Check
 pattern_room n p s nodes ptr cols =
-    must (leb (count_below n p) (length nodes)) 25
-    then must (ltb (count_below n p) (length ptr)) 25
-    then must (leb (pairs_inside n p s) (length cols)) 25
+    must (leb (count_below n p) (length nodes)) ListTooShort
+    then must (ltb (count_below n p) (length ptr)) ListTooShort
+    then must (leb (pairs_inside n p s) (length cols)) ListTooShort
 
 -- the topology, 10, the mask
-unfoldable pub region_check : Checked → ℕ → ℕ → ℕ → List ℕ → Checked
-region_check topology nrows ncols len words = topology then must (eqb nrows ncols) 10 then length_check nrows len words
+unfoldable pub region_check : Check → ℕ → ℕ → ℕ → List ℕ → Check
+region_check topology nrows ncols len words = topology then must (eqb nrows ncols) NotSquare then length_check nrows len words
 
-unfoldable pub pattern_check : Checked → ℕ → ℕ → ℕ → List ℕ → (ℕ → ℕ → Bool) → List ℕ → List ℕ → List ℕ → Checked
+unfoldable pub pattern_check : Check → ℕ → ℕ → ℕ → List ℕ → (ℕ → ℕ → Bool) → List ℕ → List ℕ → List ℕ → Check
 pattern_check topology nrows ncols len words s nodes ptr cols =
     region_check topology nrows ncols len words then pattern_room nrows (in_mask words) s nodes ptr cols
 
@@ -84,17 +86,17 @@ stats_of_pattern n p s =
       pattern_bytes = bytes_of_pattern (count_below n p) (pairs_inside n p s);
     }
 
-abbrev pub pattern_answer : Checked → ℕ → (ℕ → Bool) → (ℕ → ℕ → Bool) → PatternExtracted
-pattern_answer check n p s = after check (PatternExtracted.Extracted (stats_of_pattern n p s)) PatternExtracted.Refused
+abbrev pub pattern_answer : Check → ℕ → (ℕ → Bool) → (ℕ → ℕ → Bool) → Result AbtmLocalSubmatrixPatternStats Refusal
+pattern_answer check n p s = answer check (stats_of_pattern n p s)
 
 -- the members
-abbrev pub nodes_left : Checked → ℕ → (ℕ → Bool) → List ℕ → List ℕ
+abbrev pub nodes_left : Check → ℕ → (ℕ → Bool) → List ℕ → List ℕ
 nodes_left check n p out = leaves check (over (members_below n p) out) out
 
-abbrev pub ptr_left : Checked → ℕ → (ℕ → Bool) → (ℕ → ℕ → Bool) → List ℕ → List ℕ
+abbrev pub ptr_left : Check → ℕ → (ℕ → Bool) → (ℕ → ℕ → Bool) → List ℕ → List ℕ
 ptr_left check n p s out = leaves check (over (pattern_ptr n p s) out) out
 
-abbrev pub columns_left : Checked → ℕ → (ℕ → Bool) → (ℕ → ℕ → Bool) → List ℕ → List ℕ
+abbrev pub columns_left : Check → ℕ → (ℕ → Bool) → (ℕ → ℕ → Bool) → List ℕ → List ℕ
 columns_left check n p s out = leaves check (over (pattern_columns n p s) out) out
 
 -- ---- two ratios of the statistics

@@ -1,9 +1,10 @@
 -- What the steps of a pattern hand on to one another; no caller of the API needs it.
 use Rattle.std.specs.Prelude.{Bool, List, ℕ, ◌*◌, ◌≤◌, leb, ltb, length}
+use Rattle.base.specs.Checks.{Check}
+use Rattle.base.specs.declared.Refusal.TheVariants.{ListTooShort}
 use Rattle.base.specs.Checks.{must, ◌then◌, side_limit, entry_limit}
 use Rattle.base.specs.Lists.{list_from}
 use Rattle.base.specs.Sets.{count_below, sum_over}
-use Rattle.base.specs.declared.Checked.{Checked}
 use Rattle.mask.specs.Mask.{words_needed}
 use Rattle.side.specs.Side.{words_of_row}
 use Rattle.pattern.specs.Pattern.{inside, pairs_inside, bytes_of_pattern}
@@ -19,9 +20,9 @@ region_kept n p s =
     record { members = count_below n p; words = sum_over n p (λ r. length (words_of_row n (s r))); candidates = sum_over n p (λ r. count_below n (s r)); kept = pairs_inside n p s }
 
 -- 25, by the counts
-unfoldable pub room_for : ℕ → ℕ → ℕ → ℕ → ℕ → Checked
+unfoldable pub room_for : ℕ → ℕ → ℕ → ℕ → ℕ → Check
 room_for members kept nodes pointers columns =
-    must (leb members nodes) 25 then must (ltb members pointers) 25 then must (leb kept columns) 25
+    must (leb members nodes) ListTooShort then must (ltb members pointers) ListTooShort then must (leb kept columns) ListTooShort
 
 -- how many members come before each word
 abbrev pub ranks_of : ℕ → (ℕ → Bool) → List ℕ

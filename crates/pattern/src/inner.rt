@@ -12,7 +12,7 @@ ghost use Rattle.pattern.specs.Pattern.{number_of, inside, columns_of, pattern_p
 ghost use Rattle.pattern.specs.Steps.{kept_of_row, region_kept, room_for, ranks_of, Small, stats_of};
 
 use crate::{AbtmLocalSubmatrixPatternStats, RegionKept, RowKept};
-use base::Checked;
+use base::Refusal;
 use word::AbtmTopologyWord;
 
 // A table of 256 words' ranks is enough up to this side.
@@ -34,10 +34,10 @@ pub fn check_region(
     column_structural_nnz: usize,
     len: usize,
     words: &[u64],
-) -> Checked
+) -> Result<(), Refusal>
     ensures { result ≡ region_check (topology_check nrows ncols row_word_ptr.now row_word_indices.now row_masks.now structural_nnz column_nrows column_ncols column_word_ptr.now column_word_indices.now column_masks.now column_structural_nnz) nrows ncols len words.now }
 {
-    match dual_topology::validate(
+    dual_topology::validate(
         nrows,
         ncols,
         row_word_ptr,
@@ -50,15 +50,11 @@ pub fn check_region(
         column_word_indices,
         column_masks,
         column_structural_nnz,
-    ) {
-        Checked::Refused(r) => Checked::Refused(r),
-        Checked::Accepted => {
-            if nrows != ncols {
-                return base::refused(10);
-            }
-            mask::inner::check_length(nrows, len, words)
-        }
+    )?;
+    if nrows != ncols {
+        return Err(Refusal::NotSquare);
     }
+    mask::inner::check_length(nrows, len, words)
 }
 
 // The words of row r: how many, their bits, and those inside the region.
@@ -77,13 +73,11 @@ pub fn count_row(
     let to = row_word_ptr[r + 1] as usize;
     let mut candidates: usize = 0;
     let mut kept: usize = 0;
-    let mut k = from;
-    while k < to {
+    for k in from..to {
         let mask = masks[k];
         let inside = region[word_indices[k] as usize];
         candidates += u64::count_ones(mask) as usize;
         kept += u64::count_ones(mask & inside) as usize;
-        k += 1;
     }
     RowKept {
         words: to - from,
@@ -131,19 +125,19 @@ pub fn check_room(
     nodes: usize,
     pointers: usize,
     columns: usize,
-) -> Checked
+) -> Result<(), Refusal>
     ensures { result ≡ room_for members kept nodes pointers columns }
 {
     if members > nodes {
-        return base::refused(25);
+        return Err(Refusal::ListTooShort);
     }
     if members >= pointers {
-        return base::refused(25);
+        return Err(Refusal::ListTooShort);
     }
     if kept > columns {
-        return base::refused(25);
+        return Err(Refusal::ListTooShort);
     }
-    Checked::Accepted
+    Ok(())
 }
 
 pub fn stats(n: usize, counts: RegionKept) -> AbtmLocalSubmatrixPatternStats
@@ -169,16 +163,14 @@ pub fn write_nodes(n: usize, region: &[u64], nodes: &mut [u32]) -> usize
     ensures nodes_after { nodes.new ≡ over (members_below n (in_mask region.now)) nodes.old }
 {
     let mut k: usize = 0;
-    let mut w: usize = 0;
-    while w < region.len() {
+    for (w, word) in region.iter().enumerate() {
         let first = (w * AbtmTopologyWord::BITS) as u32;
-        let mut bits = region[w];
+        let mut bits = *word;
         while bits != 0 {
             nodes[k] = first + u64::trailing_zeros(bits);
             k += 1;
             bits = bits & (bits - 1);
         }
-        w += 1;
     }
     k
 }
@@ -189,14 +181,11 @@ pub fn fill_ranks(n: usize, region: &[u64], ranks: &mut [u32])
     ensures { ranks.new ≡ over (ranks_of n (in_mask region.now)) ranks.old }
 {
     let mut before: u32 = 0;
-    let mut w: usize = 0;
-    while w < region.len() {
+    for (w, bits) in region.iter().enumerate() {
         ranks[w] = before;
-        let bits = region[w];
-        if bits != 0 {
-            before += u64::count_ones(bits);
+        if *bits != 0 {
+            before += u64::count_ones(*bits);
         }
-        w += 1;
     }
 }
 
@@ -233,14 +222,11 @@ pub fn write_row(
     ensures value { result ≡ at + count_below n (inside (in_mask region.now) (side_holds row_word_ptr.now word_indices.now masks.now) r) }
     ensures cols_after { cols.new ≡ placed at (map (number_of (in_mask region.now)) (columns_of n (in_mask region.now) (side_holds row_word_ptr.now word_indices.now masks.now) r)) cols.old }
 {
-    let to = row_word_ptr[r + 1] as usize;
     let mut next = at;
-    let mut k = row_word_ptr[r] as usize;
-    while k < to {
+    for k in row_word_ptr[r] as usize..row_word_ptr[r + 1] as usize {
         let w = word_indices[k] as usize;
         let inside = region[w];
         next = write_word(ranks[w], inside, masks[k] & inside, cols, next);
-        k += 1;
     }
     next
 }

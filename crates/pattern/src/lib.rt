@@ -7,7 +7,7 @@ ghost use Rattle.side.specs.Side.{side_holds};
 ghost use Rattle.dual_topology.specs.Check.{topology_check};
 ghost use Rattle.pattern.specs.Pattern.{pattern_check, pattern_answer, nodes_left, ptr_left, columns_left, pruning_ratio, average_row_nnz};
 
-use base::{Checked, Refusal};
+use base::Refusal;
 
 pub mod inner;
 
@@ -21,12 +21,6 @@ pub struct AbtmLocalSubmatrixPatternStats {
     pub kept_neighbor_bits: u32,
     pub mapping_scratch_bytes: u32,
     pub pattern_bytes: u32,
-}
-
-#[derive(Clone, Copy)]
-pub enum PatternExtracted {
-    Extracted(AbtmLocalSubmatrixPatternStats),
-    Refused(Refusal),
 }
 
 // What one row's words hold: how many there are, their set bits, and those inside the region.
@@ -87,13 +81,13 @@ pub fn extract_local_submatrix_pattern(
     global_nodes: &mut [u32],
     row_ptr: &mut [u32],
     col_idx: &mut [u32],
-) -> PatternExtracted
+) -> Result<AbtmLocalSubmatrixPatternStats, Refusal>
     ensures value { result ≡ pattern_answer (pattern_check (topology_check nrows ncols row_word_ptr.now row_word_indices.now row_masks.now structural_nnz column_nrows column_ncols column_word_ptr.now column_word_indices.now column_masks.now column_structural_nnz) nrows ncols len words.now (side_holds row_word_ptr.now row_word_indices.now row_masks.now) global_nodes.old row_ptr.old col_idx.old) nrows (in_mask words.now) (side_holds row_word_ptr.now row_word_indices.now row_masks.now) }
     ensures members { global_nodes.new ≡ nodes_left (pattern_check (topology_check nrows ncols row_word_ptr.now row_word_indices.now row_masks.now structural_nnz column_nrows column_ncols column_word_ptr.now column_word_indices.now column_masks.now column_structural_nnz) nrows ncols len words.now (side_holds row_word_ptr.now row_word_indices.now row_masks.now) global_nodes.old row_ptr.old col_idx.old) nrows (in_mask words.now) global_nodes.old }
     ensures pointers { row_ptr.new ≡ ptr_left (pattern_check (topology_check nrows ncols row_word_ptr.now row_word_indices.now row_masks.now structural_nnz column_nrows column_ncols column_word_ptr.now column_word_indices.now column_masks.now column_structural_nnz) nrows ncols len words.now (side_holds row_word_ptr.now row_word_indices.now row_masks.now) global_nodes.old row_ptr.old col_idx.old) nrows (in_mask words.now) (side_holds row_word_ptr.now row_word_indices.now row_masks.now) row_ptr.old }
     ensures columns { col_idx.new ≡ columns_left (pattern_check (topology_check nrows ncols row_word_ptr.now row_word_indices.now row_masks.now structural_nnz column_nrows column_ncols column_word_ptr.now column_word_indices.now column_masks.now column_structural_nnz) nrows ncols len words.now (side_holds row_word_ptr.now row_word_indices.now row_masks.now) global_nodes.old row_ptr.old col_idx.old) nrows (in_mask words.now) (side_holds row_word_ptr.now row_word_indices.now row_masks.now) col_idx.old }
 {
-    match inner::check_region(
+    inner::check_region(
         nrows,
         ncols,
         row_word_ptr,
@@ -108,32 +102,24 @@ pub fn extract_local_submatrix_pattern(
         column_structural_nnz,
         len,
         words,
-    ) {
-        Checked::Refused(r) => PatternExtracted::Refused(r),
-        Checked::Accepted => {
-            let kept = inner::count(nrows, row_word_ptr, row_word_indices, row_masks, words);
-            match inner::check_room(
-                kept.members,
-                kept.kept,
-                global_nodes.len(),
-                row_ptr.len(),
-                col_idx.len(),
-            ) {
-                Checked::Refused(r) => PatternExtracted::Refused(r),
-                Checked::Accepted => {
-                    inner::write(
-                        nrows,
-                        row_word_ptr,
-                        row_word_indices,
-                        row_masks,
-                        words,
-                        global_nodes,
-                        row_ptr,
-                        col_idx,
-                    );
-                    PatternExtracted::Extracted(inner::stats(nrows, kept))
-                }
-            }
-        }
-    }
+    )?;
+    let kept = inner::count(nrows, row_word_ptr, row_word_indices, row_masks, words);
+    inner::check_room(
+        kept.members,
+        kept.kept,
+        global_nodes.len(),
+        row_ptr.len(),
+        col_idx.len(),
+    )?;
+    inner::write(
+        nrows,
+        row_word_ptr,
+        row_word_indices,
+        row_masks,
+        words,
+        global_nodes,
+        row_ptr,
+        col_idx,
+    );
+    Ok(inner::stats(nrows, kept))
 }

@@ -1,18 +1,20 @@
 -- A job's parts of fixed arrays, and its checks step by step. Assumes nothing.
 use mathlib.Core.Path.{◌≡◌, refl, sym, ap, ap₂, ◌∙◌}
+use Rattle.std.specs.Prelude.{Ok, Err}
+use Rattle.base.specs.Checks.{Check}
+use Rattle.base.specs.declared.Refusal.TheVariants.{OverLimit, MalformedJob, OutOfRange, ListTooShort}
 use mathlib.Core.Bool.{Bool, true, false, cond, ◌&&◌}
 use mathlib.Core.List.{List}
 use Prim.Native.Nat.{ℕ, ◌≤◌, ◌<◌}
 use native.Mathlib.Omega.{arith}
 use borrow.Author.Tests.{le-leb, leb-true}
-use lib.Dec.{eqb, leb}
+use lib.Dec.{leb}
 use lib.ListN.{length, get_or, take}
 use lib.Seq.{take_all}
 use Rattle.base.specs.Checks.{must, ◌then◌, side_limit}
 use Rattle.base.specs.Lists.{every, below, over}
-use Rattle.base.specs.declared.Checked.{Checked}
 use Rattle.base.specs.declared.Refusal.{Refusal}
-use Rattle.base.proofs.Checks.{last-pass, group-stop, then_next, then-none}
+use Rattle.base.proofs.Checks.{last-pass, group-stop, then_next, then-none, then-assoc, passed, both-passed}
 use Rattle.base.proofs.Bools.{and_left, and_right}
 use Rattle.base.proofs.Lists.{over-own}
 use Rattle.base.proofs.Sets.{sum-most}
@@ -24,7 +26,7 @@ use Rattle.job_text.specs.Job.{Job, is_job, job_of}
 use Rattle.job_text.specs.Answer.{refused_key}
 use Rattle.job_text.specs.declared.JobRead.{JobRead}
 use Rattle.peak_job.specs.Answer.{in_arrays, ask_check, job_check, result_text, text_of, answer_text}
-use Rattle.peak_job.specs.Steps.{read_fits, laid_check, asked_text, job_read, judged_text}
+use Rattle.peak_job.specs.Steps.{read_fits, read_check, laid_check, asked_text, job_read, judged_text}
 use Rattle.peak_job.proofs.Regions.{le-25}
 
 -- the blocks of a job have far fewer components than 64 bits hold
@@ -35,46 +37,33 @@ total-fits blocks f h = omega (arith, sum-most (length blocks) 4294967296 (λ k.
 -- ---- the checks
 
 -- of a mask's own checks only 13 can refuse
-pub from_is : (n : ℕ) (seeds out : List ℕ) → n ≤ 256 → 4 ≤ length out → from_check n seeds out ≡ must (every (below n) seeds) 13
+pub from_is : (n : ℕ) (seeds out : List ℕ) → n ≤ 256 → 4 ≤ length out → from_check n seeds out ≡ must (every (below n) seeds) OutOfRange
 unfolding from_check
 from_is n seeds out few room =
-    let side : must (leb n side_limit) 1 ≡ Checked.Accepted = sym (last-pass _ 1 _ (le-leb n side_limit (omega (arith, few))) refl) in
+    let side : must (leb n side_limit) OverLimit ≡ (Ok tt) = sym (last-pass _ _ _ (le-leb n side_limit (omega (arith, few))) refl) in
     let words : words_needed n ≤ length out = omega (arith, few, room) in
-    then_next (must (leb n side_limit) 1) (must (every (below n) seeds) 13 then must (leb (words_needed n) (length out)) 25) side
-    ∙ ap (λ (x : Checked). must (every (below n) seeds) 13 then x) (le-25 (words_needed n) (length out) words)
-    ∙ then-none (must (every (below n) seeds) 13)
+    then_next (must (leb n side_limit) OverLimit) (must (every (below n) seeds) OutOfRange then must (leb (words_needed n) (length out)) ListTooShort) side
+    ∙ ap (λ (x : Check). must (every (below n) seeds) OutOfRange then x) (le-25 (words_needed n) (length out) words)
+    ∙ then-none (must (every (below n) seeds) OutOfRange)
 
-pub ask-stop : (j : Job) (q : Refusal) → must (every (below j.size) j.seeds) 13 ≡ Checked.Refused q → ask_check j ≡ Checked.Refused q
+pub ask-stop : (j : Job) (q : Refusal) → must (every (below j.size) j.seeds) OutOfRange ≡ Err q → ask_check j ≡ Err q
 unfolding ask_check
-ask-stop j q e = sym (group-stop (must (every (below j.size) j.seeds) 13) (laid_check j.size j.blocks j.ptr j.cols) q e)
+ask-stop j q e = sym (group-stop (must (every (below j.size) j.seeds) OutOfRange) (laid_check j.size j.blocks j.ptr j.cols) q e)
 
-pub ask-on : (j : Job) → must (every (below j.size) j.seeds) 13 ≡ Checked.Accepted → ask_check j ≡ laid_check j.size j.blocks j.ptr j.cols
+pub ask-on : (j : Job) → must (every (below j.size) j.seeds) OutOfRange ≡ Ok tt → ask_check j ≡ laid_check j.size j.blocks j.ptr j.cols
 unfolding ask_check
-ask-on j e = then_next (must (every (below j.size) j.seeds) 13) (laid_check j.size j.blocks j.ptr j.cols) e
+ask-on j e = then_next (must (every (below j.size) j.seeds) OutOfRange) (laid_check j.size j.blocks j.ptr j.cols) e
 
--- 27 and 1
-pub first-is : (good fit : Bool) (a b k : ℕ) → a ≡ cond good 0 27 → b ≡ cond fit 0 1 → k ≡ cond (eqb a 0) b a → k ≡ cond good (cond fit 0 1) 27
-first-is good fit a b k ea eb e = e ∙ ap₂ (λ (x y : ℕ). cond (eqb x 0) y x) ea eb ∙ order good
-  where
-    order : (g : Bool) → ◌≡◌ {A = ℕ} (cond (eqb (cond g 0 27) 0) (cond fit 0 1) (cond g 0 27)) (cond g (cond fit 0 1) 27)
-    order true = refl
-    order false = refl
+-- 27 and 1: the refusal of what was read is the job's, and what they let pass has room
+pub read-stop : (r : JobRead) (rest : Check) (q : Refusal) → read_check r ≡ Err q → (read_check r then rest) ≡ Err q
+read-stop r rest q e = sym (group-stop (read_check r) rest q e)
 
-pub fault-text : (good fit : Bool) (rest : Checked) (x : List ℕ) (k : ℕ) → k ≡ cond good (cond fit 0 1) 27 → (k ≡ 0 → ⊥)
-    → line refused_key (decimal k) ≡ text_of (must good 27 then must fit 1 then rest) x
-unfolding must ◌then◌
-fault-text false fit rest x k e n = ap (λ (m : ℕ). line refused_key (decimal m)) e
-fault-text true false rest x k e n = ap (λ (m : ℕ). line refused_key (decimal m)) e
-fault-text true true rest x k e n = absurd (n e)
+pub read-on : (r : JobRead) (rest : Check) → read_check r ≡ Ok tt → (read_check r then rest) ≡ rest
+read-on r rest e = then_next (read_check r) rest e
 
-pub no-fault : (good fit : Bool) (k : ℕ) → k ≡ cond good (cond fit 0 1) 27 → k ≡ 0 → (good ≡ true) × (fit ≡ true)
-no-fault false fit k e z = absurd (let h : 0 ≡ 27 = sym z ∙ e in omega arith)
-no-fault true false k e z = absurd (let h : 0 ≡ 1 = sym z ∙ e in omega arith)
-no-fault true true k e z = (refl, refl)
-
-pub judged-on : (good fit : Bool) (rest : Checked) (x : List ℕ) → good ≡ true → fit ≡ true → text_of rest x ≡ text_of (must good 27 then must fit 1 then rest) x
-unfolding must ◌then◌
-judged-on good fit rest x g f = ap₂ (λ (a b : Bool). text_of (must a 27 then must b 1 then rest) x) (sym g) (sym f)
+pub read-fits : (r : JobRead) → read_check r ≡ Ok tt → read_fits r ≡ true
+unfolding read_check
+read-fits r e = passed _ _ (both-passed _ _ e).1
 
 pub of-five : (a b c d e : Bool) → (a && b && c && d && e) ≡ true → (a ≡ true) × (b ≡ true) × (c ≡ true) × (d ≡ true) × (e ≡ true)
 of-five a b c d e h =
@@ -93,7 +82,7 @@ own-list B z l k e few long o =
 
 -- past 27 and 1 it makes no difference which job they let pass
 same-job : (good fit : Bool) (i j : Job) → (fit ≡ true → i ≡ j)
-    → text_of (must good 27 then must fit 1 then ask_check i) (result_text i) ≡ text_of (must good 27 then must fit 1 then ask_check j) (result_text j)
+    → text_of (must good MalformedJob then must fit OverLimit then ask_check i) (result_text i) ≡ text_of (must good MalformedJob then must fit OverLimit then ask_check j) (result_text j)
 unfolding must ◌then◌
 same-job false fit i j h = refl
 same-job true false i j h = refl
@@ -120,7 +109,8 @@ module _ (t : List ℕ) (r : JobRead) (blocks ptr cols seeds zb zp zc zs : List 
         }
 
     pub judged-is : judged_text r blocks ptr cols seeds ≡ answer_text t
-    unfolding answer_text job_check
+    unfolding answer_text job_check read_check
     judged-is =
-        same-job r.good (read_fits r) (job_read r blocks ptr cols seeds) (job_of t) job_is
-        ∙ ap₂ (λ (a b : Bool). text_of (must a 27 then must b 1 then ask_check (job_of t)) (result_text (job_of t))) eg fits-are
+        ap (λ (x : Check). text_of x (result_text (job_read r blocks ptr cols seeds))) (then-assoc (must r.good MalformedJob) (must (read_fits r) OverLimit) (ask_check (job_read r blocks ptr cols seeds)))
+        ∙ same-job r.good (read_fits r) (job_read r blocks ptr cols seeds) (job_of t) job_is
+        ∙ ap₂ (λ (a b : Bool). text_of (must a MalformedJob then must b OverLimit then ask_check (job_of t)) (result_text (job_of t))) eg fits-are

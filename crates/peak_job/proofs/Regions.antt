@@ -1,6 +1,9 @@
 -- What a prepared region leaves, as the five lines of its answer; and that its mask and its lists, which the program makes itself, are not refused.
 -- Assumes nothing.
 use mathlib.Core.Path.{◌≡◌, refl, sym, ap, ap₂, ◌∙◌, subst}
+use Rattle.std.specs.Prelude.{Result, Ok, Err}
+use Rattle.base.specs.Checks.{Check, answer}
+use Rattle.base.specs.declared.Refusal.TheVariants.{ListTooShort}
 use mathlib.Core.Bool.{Bool}
 use mathlib.Core.List.{List}
 use Prim.Native.Nat.{ℕ, ◌+◌, ◌≤◌, ◌<◌}
@@ -11,7 +14,6 @@ use lib.ListN.{length, take}
 use Rattle.base.specs.Checks.{must, ◌then◌, after, leaves}
 use Rattle.base.specs.Lists.{over, over_with_zeros}
 use Rattle.base.specs.Sets.{count_below, members_below}
-use Rattle.base.specs.declared.Checked.{Checked}
 use Rattle.base.specs.declared.Refusal.{Refusal}
 use Rattle.base.proofs.Checks.{last-pass, both-passed, both-pass, then-none}
 use Rattle.base.proofs.Lists.{over-own, zeros-own}
@@ -30,7 +32,6 @@ use Rattle.prepared_field_region.specs.Prepared.{local_room, prepare_room, prepa
 use Rattle.cutting.specs.Steps.{Inputs}
 use Rattle.cutting.proofs.Local.{few_pairs}
 use Rattle.prepared_field_region.specs.declared.PreparedFieldAwareLocalRegion.{PreparedFieldAwareLocalRegion}
-use Rattle.prepared_field_region.specs.declared.RegionPrepared.{RegionPrepared}
 use Rattle.job_text.specs.Answer.{result_lines}
 use Rattle.peak_job.specs.Answer.{region_text}
 use Rattle.peak_job.specs.Steps.{Arrays}
@@ -38,32 +39,32 @@ use Rattle.peak_job.specs.Steps.{Arrays}
 -- ---- the checks
 
 -- mask and room accepted, the prepared region's checks are the matrix and the layout
-pub check-is : (matrix square room : Checked) (n : ℕ) (words : List ℕ) → mask_check n words ≡ Checked.Accepted → room ≡ Checked.Accepted
+pub check-is : (matrix square room : Check) (n : ℕ) (words : List ℕ) → mask_check n words ≡ Ok tt → room ≡ Ok tt
     → prepare_check (prepare_inputs matrix square n n words) room ≡ (matrix then square)
 unfolding prepare_check prepare_inputs
 check-is matrix square room n words m r =
-    ap (λ (x : Checked). (matrix then (square then length_check n n words)) then x) r
+    ap (λ (x : Check). (matrix then (square then length_check n n words)) then x) r
     ∙ then-none (matrix then (square then length_check n n words))
-    ∙ ap (λ (x : Checked). matrix then (square then x)) (words-accepted n n words refl m)
-    ∙ ap (λ (x : Checked). matrix then x) (then-none square)
+    ∙ ap (λ (x : Check). matrix then (square then x)) (words-accepted n n words refl m)
+    ∙ ap (λ (x : Check). matrix then x) (then-none square)
 
 -- what both accept, the prepared region's inputs do
-pub inputs-pass : (matrix square : Checked) (n : ℕ) (words : List ℕ) → mask_check n words ≡ Checked.Accepted → (matrix then square) ≡ Checked.Accepted → prepare_inputs matrix square n n words ≡ Checked.Accepted
+pub inputs-pass : (matrix square : Check) (n : ℕ) (words : List ℕ) → mask_check n words ≡ Ok tt → (matrix then square) ≡ Ok tt → prepare_inputs matrix square n n words ≡ Ok tt
 unfolding prepare_inputs
 inputs-pass matrix square n words m e =
     let b = both-passed matrix square e in
     both-pass matrix (square then length_check n n words) b.0 (both-pass square (length_check n n words) b.1 (words-accepted n n words refl m))
 
-pub le-25 : (a b : ℕ) → a ≤ b → must (leb a b) 25 ≡ Checked.Accepted
-le-25 a b h = sym (last-pass _ 25 _ (le-leb a b h) refl)
+pub le-25 : (a b : ℕ) → a ≤ b → must (leb a b) ListTooShort ≡ Ok tt
+le-25 a b h = sym (last-pass _ _ _ (le-leb a b h) refl)
 
-lt-25 : (a b : ℕ) → a < b → must (ltb a b) 25 ≡ Checked.Accepted
-lt-25 a b h = sym (last-pass _ 25 _ (lt-ltb a b h) refl)
+lt-25 : (a b : ℕ) → a < b → must (ltb a b) ListTooShort ≡ Ok tt
+lt-25 a b h = sym (last-pass _ _ _ (lt-ltb a b h) refl)
 
 -- the arrays have the room
 pub room-enough : (n entries : ℕ) (rptr ridx rmasks cptr cidx cmasks starts order region frontier scratch nodes pointers columns source_ptr sources : List ℕ) → n ≤ 256 → entries ≤ 1023
     → Arrays rptr ridx rmasks cptr cidx cmasks starts order region frontier scratch nodes pointers columns source_ptr sources
-    → prepare_room n n entries (length rptr) (length ridx) (length rmasks) (length cptr) (length cidx) (length cmasks) (length starts) (length order) (length region) (length frontier) (length scratch) (length nodes) (length pointers) (length columns) (length source_ptr) (length sources) ≡ Checked.Accepted
+    → prepare_room n n entries (length rptr) (length ridx) (length rmasks) (length cptr) (length cidx) (length cmasks) (length starts) (length order) (length region) (length frontier) (length scratch) (length nodes) (length pointers) (length columns) (length source_ptr) (length sources) ≡ Ok tt
 unfolding prepare_room side_room masks_room local_room
 room-enough n entries rptr ridx rmasks cptr cidx cmasks starts order region frontier scratch nodes pointers columns source_ptr sources few short a =
     let few_words : words_needed n ≤ 4 = omega arith in
@@ -80,24 +81,24 @@ room-enough n entries rptr ridx rmasks cptr cidx cmasks starts order region fron
     (both-pass _ _ (lt-25 entries (length source_ptr) (omega (arith, a.source_pointers))) (le-25 entries (length sources) (omega (arith, a.entry_sources))))))))
   where
     side : (p i m : List ℕ) → 1024 ≤ length p → 1024 ≤ length i → 1024 ≤ length m
-        → (must (ltb n (length p)) 25 then must (leb entries (length i)) 25 then must (leb entries (length m)) 25) ≡ Checked.Accepted
+        → (must (ltb n (length p)) ListTooShort then must (leb entries (length i)) ListTooShort then must (leb entries (length m)) ListTooShort) ≡ Ok tt
     side p i m hp hi hm =
         both-pass _ _ (lt-25 n (length p) (omega (arith, few, hp))) (both-pass _ _ (le-25 entries (length i) (omega (arith, short, hi))) (le-25 entries (length m) (omega (arith, short, hm))))
 
 -- ---- what an answer of prepare_region says of its checks
 
-pub prepared : (check : Checked) (x p : PreparedFieldAwareLocalRegion) (r : RegionPrepared) → r ≡ after check (RegionPrepared.Prepared x) RegionPrepared.Refused → r ≡ RegionPrepared.Prepared p
-    → (check ≡ Checked.Accepted) × (p ≡ x)
-prepared Checked.Accepted x p r e f = (refl, cc)
-prepared (Checked.Refused q) x p r e f = absurd (let z : ◌≡◌ {A = ℕ} 0 1 = cc in omega arith)
+pub prepared : (check : Check) (x p : PreparedFieldAwareLocalRegion) (r : Result PreparedFieldAwareLocalRegion Refusal) → r ≡ answer check x → r ≡ Ok p
+    → (check ≡ Ok tt) × (p ≡ x)
+prepared (Ok tt) x p r e f = (refl, cc)
+prepared (Err q) x p r e f = absurd (let z : ◌≡◌ {A = ℕ} 0 1 = cc in omega arith)
 
-pub refused : (check : Checked) (x : PreparedFieldAwareLocalRegion) (q : Refusal) (r : RegionPrepared) → r ≡ after check (RegionPrepared.Prepared x) RegionPrepared.Refused → r ≡ RegionPrepared.Refused q
-    → check ≡ Checked.Refused q
-refused Checked.Accepted x q r e f = absurd (let z : ◌≡◌ {A = ℕ} 0 1 = cc in omega arith)
-refused (Checked.Refused s) x q r e f = cc
+pub refused : (check : Check) (x : PreparedFieldAwareLocalRegion) (q : Refusal) (r : Result PreparedFieldAwareLocalRegion Refusal) → r ≡ answer check x → r ≡ Err q
+    → check ≡ Err q
+refused (Ok tt) x q r e f = absurd (let z : ◌≡◌ {A = ℕ} 0 1 = cc in omega arith)
+refused (Err s) x q r e f = cc
 
-pub left_is : (check : Checked) (new old l : List ℕ) → l ≡ leaves check new old → check ≡ Checked.Accepted → l ≡ new
-left_is check new old l e a = e ∙ ap (λ (x : Checked). leaves x new old) a
+pub left_is : (check : Check) (new old l : List ℕ) → l ≡ leaves check new old → check ≡ Ok tt → l ≡ new
+left_is check new old l e a = e ∙ ap (λ (x : Check). leaves x new old) a
 
 -- ---- its lists, as the five lines
 

@@ -1,5 +1,7 @@
 -- How long an answer can be: the program's list takes every one. Assumes nothing.
 use mathlib.Core.Path.{◌≡◌, refl}
+use Rattle.std.specs.Prelude.{Ok, Err}
+use Rattle.base.specs.Checks.{Check, answer}
 use mathlib.Core.Bool.{Bool, true}
 use mathlib.Core.List.{List}
 use Prim.Native.Nat.{ℕ, ◌≤◌}
@@ -8,7 +10,6 @@ use borrow.Author.Tests.{leb-true}
 use lib.Dec.{leb}
 use lib.ListN.{length}
 use Rattle.base.specs.Sets.{members_below}
-use Rattle.base.specs.declared.Checked.{Checked}
 use Rattle.base.specs.declared.Refusal.{Refusal}
 use Rattle.base.proofs.Checks.{passed, both-passed}
 use Rattle.base.proofs.Sets.{count-le, count-members}
@@ -29,9 +30,10 @@ use Rattle.job_text.specs.Answer.{refused_key, refused_text}
 use Rattle.job_text.proofs.Lines.{lines-length}
 use Rattle.peak_job.specs.Answer.{in_arrays, values_of, ask_check, job_check, seed_words, region_text, result_text, text_of, answer_text}
 use Rattle.peak_job.proofs.Jobs.{of-five}
+use Rattle.base.specs.Checks.{refusal_number}
 
 -- the region of a small matrix in five lines
-region-short : (j : Job) → in_arrays j ≡ true → ask_check j ≡ Checked.Accepted → length (result_text j) ≤ 40960
+region-short : (j : Job) → in_arrays j ≡ true → ask_check j ≡ Ok tt → length (result_text j) ≤ 40960
 unfolding in_arrays ask_check result_text region_text
 region-short j f e =
     let n = j.size in
@@ -61,11 +63,11 @@ region-short j f e =
     )
 
 refusal-short : (r : Refusal) → length (refused_text r) ≤ 40960
-refusal-short r = omega (arith, length-line refused_key (decimal r.number), decimal-most r.number)
+refusal-short r = omega (arith, length-line refused_key (decimal (refusal_number r)), decimal-most (refusal_number r))
 
-either : (check : Checked) (x : List ℕ) → (check ≡ Checked.Accepted → length x ≤ 40960) → length (text_of check x) ≤ 40960
-either Checked.Accepted x h = h refl
-either (Checked.Refused r) x h = refusal-short r
+either : (check : Check) (x : List ℕ) → (check ≡ Ok tt → length x ≤ 40960) → length (text_of check x) ≤ 40960
+either (Ok tt) x h = h refl
+either (Err r) x h = refusal-short r
 
 pub answer-short : (t : List ℕ) → length (answer_text t) ≤ 40960
 unfolding answer_text job_check

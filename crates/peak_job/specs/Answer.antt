@@ -1,9 +1,10 @@
 -- The job program of document 01: the checks of a job, and the text that answers it.
 use Rattle.std.specs.Prelude.{Bool, ◌&&◌, List, ℕ, leb, Float, length, replicate}
+use Rattle.base.specs.Checks.{Check}
+use Rattle.base.specs.declared.Refusal.TheVariants.{OverLimit, OutOfRange, MalformedJob}
 use Rattle.base.specs.Checks.{must, ◌then◌, after}
 use Rattle.base.specs.Lists.{every, below, is_in, list_from}
 use Rattle.base.specs.Sets.{members_below}
-use Rattle.base.specs.declared.Checked.{Checked}
 use Rattle.mask.specs.Mask.{in_mask, mask_words}
 use Rattle.csr32.specs.Matrix.{matrix_check, stored}
 use Rattle.dof_layout.specs.Layout.{offsets_of}
@@ -40,15 +41,15 @@ abbrev pub values_of : List ℕ → List Float
 values_of cols = replicate (length cols) one
 
 -- a seed not below size is 13; then the prepared region's order. Its mask and its lists the program makes itself: they are not refused
-unfoldable pub ask_check : Job → Checked
+unfoldable pub ask_check : Job → Check
 ask_check j =
-    must (every (below j.size) j.seeds) 13
+    must (every (below j.size) j.seeds) OutOfRange
     then matrix_check j.size j.size j.ptr j.cols (values_of j.cols)
     then square_check (kinds_of j.blocks) (ids_of j.blocks) (fields_of j.blocks) j.blocks (offsets_of j.blocks) j.size j.size
 
 -- 27 over the whole text, then 1, then the rest
-unfoldable pub job_check : List ℕ → Checked
-job_check t = must (is_job t) 27 then must (in_arrays (job_of t)) 1 then ask_check (job_of t)
+unfoldable pub job_check : List ℕ → Check
+job_check t = must (is_job t) MalformedJob then must (in_arrays (job_of t)) OverLimit then ask_check (job_of t)
 
 -- ---- the answer
 
@@ -73,7 +74,7 @@ unfoldable pub result_text : Job → List ℕ
 result_text j = region_text j.size j.ptr j.cols j.blocks (seed_words j) j.hops
 
 -- on refusal only the line refused= and the number
-abbrev pub text_of : Checked → List ℕ → List ℕ
+abbrev pub text_of : Check → List ℕ → List ℕ
 text_of check text = after check text refused_text
 
 unfoldable pub answer_text : List ℕ → List ℕ

@@ -1,7 +1,8 @@
 -- What the steps of a job hand on to one another; no caller of the API needs it.
 use Rattle.std.specs.Prelude.{Bool, cond, ◌&&◌, List, ℕ, ◌≤◌, leb, length, take}
+use Rattle.base.specs.Checks.{Check}
+use Rattle.base.specs.declared.Refusal.TheVariants.{OverLimit, MalformedJob}
 use Rattle.base.specs.Checks.{must, ◌then◌}
-use Rattle.base.specs.declared.Checked.{Checked}
 use Rattle.csr32.specs.Matrix.{matrix_check}
 use Rattle.dof_layout.specs.Layout.{offsets_of}
 use Rattle.dof_layout.specs.Answers.{square_check}
@@ -13,9 +14,9 @@ use Rattle.peak_job.specs.Answer.{kinds_of, ids_of, fields_of, values_of, ask_ch
 abbrev pub read_fits : JobRead → Bool
 read_fits r = leb r.size 256 && leb r.blocks 1023 && leb r.pointers 1024 && leb r.columns 1023 && leb r.seeds 1024
 
--- 27, 1, or 0 where neither refuses
-abbrev pub fault_of : JobRead → ℕ
-fault_of r = cond r.good (cond (read_fits r) 0 1) 27
+-- 27, then 1
+unfoldable pub read_check : JobRead → Check
+read_check r = must r.good MalformedJob then must (read_fits r) OverLimit
 
 -- lists with room for 1,024 numbers, masks with room for 256 nodes
 pub record Arrays (rptr ridx rmasks cptr cidx cmasks starts order region frontier scratch nodes pointers columns source_ptr sources : List ℕ) : Type 0 where
@@ -37,7 +38,7 @@ pub record Arrays (rptr ridx rmasks cptr cidx cmasks starts order region frontie
   pub entry_sources : 1024 ≤ length sources
 
 -- the prepared region's order
-abbrev pub laid_check : ℕ → List ℕ → List ℕ → List ℕ → Checked
+abbrev pub laid_check : ℕ → List ℕ → List ℕ → List ℕ → Check
 laid_check n blocks ptr cols = matrix_check n n ptr cols (values_of cols) then square_check (kinds_of blocks) (ids_of blocks) (fields_of blocks) blocks (offsets_of blocks) n n
 
 -- the answer of a job that 27 and 1 let pass
@@ -52,4 +53,4 @@ job_read r blocks ptr cols seeds =
 abbrev pub judged_text : JobRead → List ℕ → List ℕ → List ℕ → List ℕ → List ℕ
 judged_text r blocks ptr cols seeds =
     let j = job_read r blocks ptr cols seeds in
-    text_of (must r.good 27 then must (read_fits r) 1 then ask_check j) (result_text j)
+    text_of (read_check r then ask_check j) (result_text j)

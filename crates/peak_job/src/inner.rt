@@ -3,78 +3,48 @@ ghost use Rattle.std.specs.Prelude.{◌≡◌, cond, ◌+◌, ◌≤◌, ◌<◌
 ghost use Rattle.base.specs.Checks.{◌then◌};
 ghost use Rattle.base.specs.Lists.{list_from};
 ghost use Rattle.base.specs.Sets.{members_below};
-ghost use Rattle.base.specs.declared.Checked.{Checked};
 ghost use Rattle.mask.specs.Mask.{words_needed, in_mask, mask_check, IsMask};
 ghost use Rattle.csr32.specs.Matrix.{matrix_check};
 ghost use Rattle.dof_layout.specs.Answers.{square_check};
 ghost use Rattle.job_text.specs.Answer.{result_lines, text_answer, text_left};
 ghost use Rattle.peak_job.specs.Answer.{region_text, text_of};
-ghost use Rattle.peak_job.specs.Steps.{read_fits, fault_of, Arrays, laid_check, asked_text, judged_text};
+ghost use Rattle.peak_job.specs.Steps.{read_fits, read_check, Arrays, laid_check, asked_text, judged_text};
 
-use base::{Checked, Counted};
+use base::Refusal;
 use job_text::JobRead;
-use prepared_field_region::RegionPrepared;
 
 // Each its own place.
 fn number(ids: &mut [u64])
     ensures { ids.new ≡ list_from (λ b. b) (length ids.old) 0 }
 {
-    let mut b: usize = 0;
-    while b < ids.len() {
-        ids[b] = b as u64;
-        b += 1;
+    for (b, id) in ids.iter_mut().enumerate() {
+        *id = b as u64;
     }
 }
 
-// 27 where the text is no job, else 0.
-fn malformed(job: JobRead) -> u32
-    ensures { result ≡ cond job.good 0 27 }
+// The size and every list have room in the arrays.
+fn fits(job: JobRead) -> bool
+    ensures { result ≡ read_fits job }
 {
-    if job.good {
-        return 0;
-    }
-    27
+    job.size <= 256
+        && job.blocks <= 1023
+        && job.pointers <= 1024
+        && job.columns <= 1023
+        && job.seeds <= 1024
 }
 
-// 1 where the size or a list is too long, else 0.
-fn too_long(job: JobRead) -> u32
-    ensures { result ≡ cond (read_fits job) 0 1 }
+// 27 over the whole text, then 1.
+#[tactic(auto, using(base::proofs::Checks::checks), unfolding(crate::specs::Steps::read_check))]
+fn check_read(job: JobRead) -> Result<(), Refusal>
+    ensures { result ≡ read_check job }
 {
-    if job.size > 256 {
-        return 1;
+    if !job.good {
+        return Err(Refusal::MalformedJob);
     }
-    if job.blocks > 1023 {
-        return 1;
+    if !fits(job) {
+        return Err(Refusal::OverLimit);
     }
-    if job.pointers > 1024 {
-        return 1;
-    }
-    if job.columns > 1023 {
-        return 1;
-    }
-    if job.seeds > 1024 {
-        return 1;
-    }
-    0
-}
-
-// The first of two faults.
-fn first(a: u32, b: u32) -> u32
-    ensures { result ≡ cond (eqb a 0) b a }
-{
-    if a == 0 {
-        return b;
-    }
-    a
-}
-
-// 27 over the whole text, then 1; 0 where neither refuses.
-fn fault(job: JobRead) -> u32
-    ensures { result ≡ fault_of job }
-{
-    let text = malformed(job);
-    let room = too_long(job);
-    first(text, room)
+    Ok(())
 }
 
 // The five lines of a prepared region, from the fronts of its lists; the frontier's members are listed first.
@@ -88,7 +58,7 @@ fn report(
     local_ptr: &[u32],
     local_cols: &[u32],
     out: &mut [u8],
-) -> Counted
+) -> Result<u64, Refusal>
     requires { (size ≤ 256) × (words_needed size ≤ length frontier.now) × IsMask size (take (words_needed size) frontier.now) × (inside ≤ 256) × (pairs ≤ 1023) × (inside ≤ length members.now) × (inside < length local_ptr.now) × (pairs ≤ length local_cols.now) }
     ensures value { result ≡ text_answer (result_lines (take inside members.now) (members_below size (in_mask (take (words_needed size) frontier.now))) completed (take (inside + 1) local_ptr.now) (take pairs local_cols.now)) out.old }
     ensures out_after { out.new ≡ text_left (result_lines (take inside members.now) (members_below size (in_mask (take (words_needed size) frontier.now))) completed (take (inside + 1) local_ptr.now) (take pairs local_cols.now)) out.old }
@@ -137,8 +107,8 @@ fn prepare(
     source_ptr: &mut [u32],
     sources: &mut [u32],
     out: &mut [u8],
-) -> Counted
-    requires { (size ≤ 256) × (length cols.now ≤ 1023) × (mask_check size words.now ≡ Checked.Accepted) × Arrays row_word_ptr.old row_word_indices.old row_masks.old column_word_ptr.old column_word_indices.old column_masks.old starts.old order.old region.old frontier.old scratch.old members.old local_ptr.old local_cols.old source_ptr.old sources.old }
+) -> Result<u64, Refusal>
+    requires { (size ≤ 256) × (length cols.now ≤ 1023) × (mask_check size words.now ≡ Ok tt) × Arrays row_word_ptr.old row_word_indices.old row_masks.old column_word_ptr.old column_word_indices.old column_masks.old starts.old order.old region.old frontier.old scratch.old members.old local_ptr.old local_cols.old source_ptr.old sources.old }
     ensures value { result ≡ text_answer (text_of (matrix_check size size ptr.now cols.now values.now then square_check kinds.now ids.now fields.now blocks.now offsets.now size size) (region_text size ptr.now cols.now blocks.now words.now hops)) out.old }
     ensures out_after { out.new ≡ text_left (text_of (matrix_check size size ptr.now cols.now values.now then square_check kinds.now ids.now fields.now blocks.now offsets.now size size) (region_text size ptr.now cols.now blocks.now words.now hops)) out.old }
 {
@@ -173,8 +143,8 @@ fn prepare(
         source_ptr,
         sources,
     ) {
-        RegionPrepared::Refused(r) => job_text::inner::refuse(r.number, out),
-        RegionPrepared::Prepared(p) => {
+        Err(r) => job_text::inner::refuse(r, out),
+        Ok(p) => {
             let growth = p.growth;
             let pattern = p.pattern;
             report(
@@ -206,8 +176,8 @@ fn cut(
     words: &[u64],
     hops: u64,
     out: &mut [u8],
-) -> Counted
-    requires { (size ≤ 256) × (length cols.now ≤ 1023) × (mask_check size words.now ≡ Checked.Accepted) }
+) -> Result<u64, Refusal>
+    requires { (size ≤ 256) × (length cols.now ≤ 1023) × (mask_check size words.now ≡ Ok tt) }
     ensures value { result ≡ text_answer (text_of (matrix_check size size ptr.now cols.now values.now then square_check kinds.now ids.now fields.now blocks.now offsets.now size size) (region_text size ptr.now cols.now blocks.now words.now hops)) out.old }
     ensures out_after { out.new ≡ text_left (text_of (matrix_check size size ptr.now cols.now values.now then square_check kinds.now ids.now fields.now blocks.now offsets.now size size) (region_text size ptr.now cols.now blocks.now words.now hops)) out.old }
 {
@@ -268,8 +238,8 @@ fn lay_out(
     words: &[u64],
     hops: u64,
     out: &mut [u8],
-) -> Counted
-    requires { (size ≤ 256) × (length blocks.now ≤ 1023) × (length cols.now ≤ 1023) × (mask_check size words.now ≡ Checked.Accepted) }
+) -> Result<u64, Refusal>
+    requires { (size ≤ 256) × (length blocks.now ≤ 1023) × (length cols.now ≤ 1023) × (mask_check size words.now ≡ Ok tt) }
     ensures value { result ≡ text_answer (text_of (laid_check size blocks.now ptr.now cols.now) (region_text size ptr.now cols.now blocks.now words.now hops)) out.old }
     ensures out_after { out.new ≡ text_left (text_of (laid_check size blocks.now ptr.now cols.now) (region_text size ptr.now cols.now blocks.now words.now hops)) out.old }
 {
@@ -308,15 +278,15 @@ fn ask(
     seeds: &[u64],
     hops: u64,
     out: &mut [u8],
-) -> Counted
+) -> Result<u64, Refusal>
     requires { (size ≤ 256) × (length blocks.now ≤ 1023) × (length cols.now ≤ 1023) }
     ensures value { result ≡ text_answer (asked_text (record { size = size; blocks = blocks.now; ptr = ptr.now; cols = cols.now; seeds = seeds.now; hops = hops })) out.old }
     ensures out_after { out.new ≡ text_left (asked_text (record { size = size; blocks = blocks.now; ptr = ptr.now; cols = cols.now; seeds = seeds.now; hops = hops })) out.old }
 {
     let mut words: [u64; 4] = [0; 4];
     match mask::from_indices(size, seeds, &mut words) {
-        Checked::Refused(r) => job_text::inner::refuse(r.number, out),
-        Checked::Accepted => {
+        Err(r) => job_text::inner::refuse(r, out),
+        Ok(()) => {
             let need = mask::inner::words_for(size);
             lay_out(size, blocks, ptr, cols, &words[0..need], hops, out)
         }
@@ -331,26 +301,27 @@ pub fn judge(
     cols: &[u32],
     seeds: &[u64],
     out: &mut [u8],
-) -> Counted
+) -> Result<u64, Refusal>
     requires { (length blocks.now ≡ 1024) × (length ptr.now ≡ 1024) × (length cols.now ≡ 1024) × (length seeds.now ≡ 1024) }
     ensures value { result ≡ text_answer (judged_text job blocks.now ptr.now cols.now seeds.now) out.old }
     ensures out_after { out.new ≡ text_left (judged_text job blocks.now ptr.now cols.now seeds.now) out.old }
 {
-    let number = fault(job);
-    if number != 0 {
-        return job_text::inner::refuse(number, out);
+    match check_read(job) {
+        Err(r) => job_text::inner::refuse(r, out),
+        Ok(()) => {
+            let a = job.blocks;
+            let b = job.pointers;
+            let c = job.columns;
+            let d = job.seeds;
+            ask(
+                job.size as usize,
+                &blocks[..a],
+                &ptr[..b],
+                &cols[..c],
+                &seeds[..d],
+                job.hops,
+                out,
+            )
+        }
     }
-    let a = job.blocks;
-    let b = job.pointers;
-    let c = job.columns;
-    let d = job.seeds;
-    ask(
-        job.size as usize,
-        &blocks[..a],
-        &ptr[..b],
-        &cols[..c],
-        &seeds[..d],
-        job.hops,
-        out,
-    )
 }

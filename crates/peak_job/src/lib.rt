@@ -6,12 +6,12 @@ ghost use Rattle.std.specs.Prelude.{◌≡◌};
 ghost use Rattle.job_text.specs.Answer.{text_answer, text_left};
 ghost use Rattle.peak_job.specs.Answer.{answer_text};
 
-use base::Counted;
+use base::Refusal;
 
 pub mod inner;
 
 // How many bytes the answer's text has, which stands at the front of `out`; 25 where that is shorter.
-pub fn run(input: &[u8], out: &mut [u8]) -> Counted
+pub fn run(input: &[u8], out: &mut [u8]) -> Result<u64, Refusal>
     ensures value { result ≡ text_answer (answer_text input.now) out.old }
     ensures out_after { out.new ≡ text_left (answer_text input.now) out.old }
 {

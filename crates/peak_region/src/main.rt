@@ -1,7 +1,7 @@
 // The job program of document 01: a job's text on standard input, its answer on standard output, and nothing else.
 #![tactic(auto)]
 
-use base::Counted;
+use base::Refusal;
 use std::io::{self, Write};
 use streams::read_full;
 
@@ -11,8 +11,8 @@ fn main(rt: HostRuntime) -> io::Result<()> {
     let got = read_full(&mut rt.reader(), &mut input)?;
     let mut out = [0u8; 40960];
     match peak_job::run(&input[0..got], &mut out) {
-        Counted::Refused(_) => Ok(()),
-        Counted::Count(n) => {
+        Err(_) => Ok(()),
+        Ok(n) => {
             let length = n as usize;
             io::writer(&rt).write_all(&out[0..length])
         }

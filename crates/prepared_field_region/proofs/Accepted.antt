@@ -1,11 +1,12 @@
 -- What acceptance gives a prepared region: inputs of one side, and lists that reach their needed lengths. Assumes nothing.
 use mathlib.Core.Path.{◌≡◌, sym, ◌∙◌, subst}
+use Rattle.std.specs.Prelude.{Ok}
+use Rattle.base.specs.Checks.{Check}
 use mathlib.Core.List.{List}
 use Prim.Native.Nat.{ℕ, ◌^◌, ◌≤◌, ◌<◌}
 use borrow.Author.Tests.{leb-true, ltb-true}
 use lib.Ieee.{Float}
 use lib.ListN.{length, get_or}
-use Rattle.base.specs.declared.Checked.{Checked}
 use Rattle.base.proofs.Checks.{both-passed, passed}
 use Rattle.csr32.specs.Matrix.{matrix_check, IsMatrix}
 use Rattle.csr32.proofs.Matrix.{accepted}
@@ -22,14 +23,14 @@ use Rattle.prepared_field_region.specs.Prepared.{local_room, prepare_room, prepa
 use Rattle.cutting.specs.Steps.{LocalFits, MasksFit, Inputs}
 
 -- the layout comes before 18
-pub square-layout : (kinds ids fields components offsets : List ℕ) (nrows ncols : ℕ) → square_check kinds ids fields components offsets nrows ncols ≡ Checked.Accepted
-    → layout_check kinds ids fields components offsets ≡ Checked.Accepted
+pub square-layout : (kinds ids fields components offsets : List ℕ) (nrows ncols : ℕ) → square_check kinds ids fields components offsets nrows ncols ≡ Ok tt
+    → layout_check kinds ids fields components offsets ≡ Ok tt
 unfolding square_check
 square-layout kinds ids fields components offsets nrows ncols e = (both-passed _ _ e).0
 
 -- the matrix is square
 pub accepted-matrix : (nrows ncols : ℕ) (ptr cols : List ℕ) (values : List Float) (kinds ids fields components offsets : List ℕ) (len : ℕ) (seeds : List ℕ)
-    → prepare_inputs (matrix_check nrows ncols ptr cols values) (square_check kinds ids fields components offsets nrows ncols) nrows len seeds ≡ Checked.Accepted
+    → prepare_inputs (matrix_check nrows ncols ptr cols values) (square_check kinds ids fields components offsets nrows ncols) nrows len seeds ≡ Ok tt
     → IsMatrix nrows nrows ptr cols × (ncols ≡ nrows)
 unfolding prepare_inputs
 accepted-matrix nrows ncols ptr cols values kinds ids fields components offsets len seeds e =
@@ -39,7 +40,7 @@ accepted-matrix nrows ncols ptr cols values kinds ids fields components offsets 
     (subst (λ (k : ℕ). IsMatrix nrows k ptr cols) same (accepted nrows ncols ptr cols values a.0).matrix, same)
 
 pub accepted-inputs : (nrows ncols : ℕ) (ptr cols : List ℕ) (values : List Float) (kinds ids fields components offsets : List ℕ) (len : ℕ) (seeds : List ℕ) → ((k : ℕ) → get_or seeds k 0 < 2 ^ 64)
-    → prepare_inputs (matrix_check nrows ncols ptr cols values) (square_check kinds ids fields components offsets nrows ncols) nrows len seeds ≡ Checked.Accepted
+    → prepare_inputs (matrix_check nrows ncols ptr cols values) (square_check kinds ids fields components offsets nrows ncols) nrows len seeds ≡ Ok tt
     → Inputs nrows ptr cols components offsets seeds × (ncols ≡ nrows)
 unfolding prepare_inputs
 accepted-inputs nrows ncols ptr cols values kinds ids fields components offsets len seeds bits e =
@@ -56,7 +57,7 @@ accepted-inputs nrows ncols ptr cols values kinds ids fields components offsets 
       m.1,
     )
 
-local_fits : (n entries : ℕ) (nodes ptr cols source_ptr sources : List ℕ) → local_room n entries (length nodes) (length ptr) (length cols) (length source_ptr) (length sources) ≡ Checked.Accepted
+local_fits : (n entries : ℕ) (nodes ptr cols source_ptr sources : List ℕ) → local_room n entries (length nodes) (length ptr) (length cols) (length source_ptr) (length sources) ≡ Ok tt
     → LocalFits n entries nodes ptr cols source_ptr sources
 unfolding local_room
 local_fits n entries nodes ptr cols source_ptr sources e =
@@ -73,7 +74,7 @@ local_fits n entries nodes ptr cols source_ptr sources e =
     }
 
 pub accepted-room : (nrows ncols entries : ℕ) (rptr ridx rmasks cptr cidx cmasks starts order region frontier scratch nodes ptr cols source_ptr sources : List ℕ)
-    → prepare_room nrows ncols entries (length rptr) (length ridx) (length rmasks) (length cptr) (length cidx) (length cmasks) (length starts) (length order) (length region) (length frontier) (length scratch) (length nodes) (length ptr) (length cols) (length source_ptr) (length sources) ≡ Checked.Accepted
+    → prepare_room nrows ncols entries (length rptr) (length ridx) (length rmasks) (length cptr) (length cidx) (length cmasks) (length starts) (length order) (length region) (length frontier) (length scratch) (length nodes) (length ptr) (length cols) (length source_ptr) (length sources) ≡ Ok tt
     → ((nrows < length rptr) × (entries ≤ length ridx) × (entries ≤ length rmasks) × (ncols < length cptr) × (entries ≤ length cidx) × (entries ≤ length cmasks) × (ncols < length starts) × (entries ≤ length order)) × (MasksFit nrows region frontier scratch × LocalFits nrows entries nodes ptr cols source_ptr sources)
 unfolding prepare_room
 accepted-room nrows ncols entries rptr ridx rmasks cptr cidx cmasks starts order region frontier scratch nodes ptr cols source_ptr sources e =
@@ -85,8 +86,8 @@ accepted-room nrows ncols entries rptr ridx rmasks cptr cidx cmasks starts order
     )
 
 -- the owners of an accepted layout's blocks
-pub accepted-block-owners : (matrix square : Checked) (kinds ids fields components offsets owners : List ℕ) (ranks : ℕ) (out : List ℕ)
-    → block_owners_check matrix square (owners_check kinds ids fields components offsets owners ranks out) ≡ Checked.Accepted
+pub accepted-block-owners : (matrix square : Check) (kinds ids fields components offsets owners : List ℕ) (ranks : ℕ) (out : List ℕ)
+    → block_owners_check matrix square (owners_check kinds ids fields components offsets owners ranks out) ≡ Ok tt
     → IsLayout kinds ids fields components offsets × (length owners ≡ total_of components) × (length components ≤ length out)
 unfolding block_owners_check
 accepted-block-owners matrix square kinds ids fields components offsets owners ranks out e =

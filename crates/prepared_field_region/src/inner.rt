@@ -17,7 +17,7 @@ ghost use Rattle.cutting.specs.Steps.{LocalFits, MasksFit, Inputs};
 ghost use Rattle.prepared_field_region.specs.Prepared.{local_room, prepare_room, prepare_inputs, block_owners_check, prepared_of};
 
 use crate::PreparedFieldAwareLocalRegion;
-use base::Checked;
+use base::Refusal;
 
 // The matrix, the layout against it.
 fn check_system(
@@ -31,21 +31,19 @@ fn check_system(
     field_ids: &[u32],
     components: &[u32],
     offsets: &[u64],
-) -> Checked
+) -> Result<(), Refusal>
     ensures { result ≡ (matrix_check nrows ncols row_ptr.now col_idx.now values.now then square_check entity_kinds.now entity_ids.now field_ids.now components.now offsets.now nrows ncols) }
 {
-    match csr32::validate(nrows, ncols, row_ptr, col_idx, values) {
-        Checked::Refused(r) => Checked::Refused(r),
-        Checked::Accepted => dof_layout::validate_square_matrix_size(
-            entity_kinds,
-            entity_ids,
-            field_ids,
-            components,
-            offsets,
-            nrows,
-            ncols,
-        ),
-    }
+    csr32::validate(nrows, ncols, row_ptr, col_idx, values)?;
+    dof_layout::validate_square_matrix_size(
+        entity_kinds,
+        entity_ids,
+        field_ids,
+        components,
+        offsets,
+        nrows,
+        ncols,
+    )
 }
 
 // The matrix, the layout against it, the mask.
@@ -62,10 +60,10 @@ pub fn check_inputs(
     offsets: &[u64],
     len: usize,
     words: &[u64],
-) -> Checked
+) -> Result<(), Refusal>
     ensures { result ≡ prepare_inputs (matrix_check nrows ncols row_ptr.now col_idx.now values.now) (square_check entity_kinds.now entity_ids.now field_ids.now components.now offsets.now nrows ncols) nrows len words.now }
 {
-    match check_system(
+    check_system(
         nrows,
         ncols,
         row_ptr,
@@ -76,10 +74,8 @@ pub fn check_inputs(
         field_ids,
         components,
         offsets,
-    ) {
-        Checked::Refused(r) => Checked::Refused(r),
-        Checked::Accepted => mask::inner::check_length(nrows, len, words),
-    }
+    )?;
+    mask::inner::check_length(nrows, len, words)
 }
 
 // The matrix, the layout against it, then all that follows the layout in a check of owners.
@@ -97,10 +93,10 @@ pub fn check_owners(
     dof_owners: &[u32],
     ranks: u32,
     room: usize,
-) -> Checked
+) -> Result<(), Refusal>
     ensures { result ≡ block_owners_check (matrix_check nrows ncols row_ptr.now col_idx.now values.now) (square_check entity_kinds.now entity_ids.now field_ids.now components.now offsets.now nrows ncols) (layout_check entity_kinds.now entity_ids.now field_ids.now components.now offsets.now then owned_check components.now dof_owners.now ranks room) }
 {
-    match check_system(
+    check_system(
         nrows,
         ncols,
         row_ptr,
@@ -111,12 +107,8 @@ pub fn check_owners(
         field_ids,
         components,
         offsets,
-    ) {
-        Checked::Refused(r) => Checked::Refused(r),
-        Checked::Accepted => {
-            field_region::inner::check_owned(components, offsets, dof_owners, ranks, room)
-        }
-    }
+    )?;
+    field_region::inner::check_owned(components, offsets, dof_owners, ranks, room)
 }
 
 // The lengths of the lists of pattern and plan.
@@ -128,25 +120,25 @@ fn check_local(
     columns: usize,
     source_pointers: usize,
     sources: usize,
-) -> Checked
+) -> Result<(), Refusal>
     ensures { result ≡ local_room n entries nodes pointers columns source_pointers sources }
 {
     if n > nodes {
-        return base::refused(25);
+        return Err(Refusal::ListTooShort);
     }
     if n >= pointers {
-        return base::refused(25);
+        return Err(Refusal::ListTooShort);
     }
     if entries > columns {
-        return base::refused(25);
+        return Err(Refusal::ListTooShort);
     }
     if entries >= source_pointers {
-        return base::refused(25);
+        return Err(Refusal::ListTooShort);
     }
     if entries > sources {
-        return base::refused(25);
+        return Err(Refusal::ListTooShort);
     }
-    Checked::Accepted
+    Ok(())
 }
 
 // The lengths of all lists.
@@ -170,11 +162,11 @@ pub fn check_room(
     columns: usize,
     source_pointers: usize,
     sources: usize,
-) -> Checked
+) -> Result<(), Refusal>
     requires { nrows ≤ side_limit }
     ensures { result ≡ prepare_room nrows ncols entries row_pointers row_words row_masks column_pointers column_words column_masks starts order region frontier scratch nodes pointers columns source_pointers sources }
 {
-    match dual_topology::inner::check_room(
+    dual_topology::inner::check_room(
         nrows,
         ncols,
         entries,
@@ -186,23 +178,17 @@ pub fn check_room(
         column_masks,
         starts,
         order,
-    ) {
-        Checked::Refused(r) => Checked::Refused(r),
-        Checked::Accepted => {
-            match growth::inner::check_room(nrows, region, frontier, scratch) {
-                Checked::Refused(r) => Checked::Refused(r),
-                Checked::Accepted => check_local(
-                    nrows,
-                    entries,
-                    nodes,
-                    pointers,
-                    columns,
-                    source_pointers,
-                    sources,
-                ),
-            }
-        }
-    }
+    )?;
+    growth::inner::check_room(nrows, region, frontier, scratch)?;
+    check_local(
+        nrows,
+        entries,
+        nodes,
+        pointers,
+        columns,
+        source_pointers,
+        sources,
+    )
 }
 
 // All steps, on lists that reach their needed lengths.

@@ -14,7 +14,7 @@ ghost use Rattle.field_region.specs.Owners.{owners_check, owners_answer, owners_
 ghost use Rattle.cutting.specs.Cut.{network_of, region_of, lists_of};
 ghost use Rattle.prepared_field_region.specs.Prepared.{prepare_room, prepare_inputs, prepare_check, block_owners_check, prepared_of, prepare_answer, prepared_nodes, prepared_ptr, prepared_columns, prepared_source_ptr, prepared_sources};
 
-use base::{Checked, Counted, Refusal};
+use base::Refusal;
 use dual_topology::{AbtmDualTopologyStats, TopologyCounts};
 use field_region::FieldAwareRegionStats;
 use numeric_plan::AbtmLocalNumericPlanStats;
@@ -30,12 +30,6 @@ pub struct PreparedFieldAwareLocalRegion {
     pub growth: FieldAwareRegionStats,
     pub pattern: AbtmLocalSubmatrixPatternStats,
     pub numeric_plan: AbtmLocalNumericPlanStats,
-}
-
-#[derive(Clone, Copy)]
-pub enum RegionPrepared {
-    Prepared(PreparedFieldAwareLocalRegion),
-    Refused(Refusal),
 }
 
 impl PreparedFieldAwareLocalRegion {
@@ -96,7 +90,7 @@ pub fn prepare_region(
     local_col_idx: &mut [u32],
     source_ptr: &mut [u32],
     source_indices: &mut [u32],
-) -> RegionPrepared
+) -> Result<PreparedFieldAwareLocalRegion, Refusal>
     ensures value { result ≡ prepare_answer (prepare_check (prepare_inputs (matrix_check nrows ncols row_ptr.now col_idx.now values.now) (square_check entity_kinds.now entity_ids.now field_ids.now components.now offsets.now nrows ncols) nrows len words.now) (prepare_room nrows ncols (length col_idx.now) (length row_word_ptr.old) (length row_word_indices.old) (length row_masks.old) (length column_word_ptr.old) (length column_word_indices.old) (length column_masks.old) (length starts.old) (length order.old) (length region.old) (length frontier.old) (length scratch.old) (length global_nodes.old) (length local_row_ptr.old) (length local_col_idx.old) (length source_ptr.old) (length source_indices.old))) (prepared_of nrows ncols row_ptr.now col_idx.now components.now words.now hops) }
     ensures row_pointers { row_word_ptr.new ≡ built_ptr (prepare_check (prepare_inputs (matrix_check nrows ncols row_ptr.now col_idx.now values.now) (square_check entity_kinds.now entity_ids.now field_ids.now components.now offsets.now nrows ncols) nrows len words.now) (prepare_room nrows ncols (length col_idx.now) (length row_word_ptr.old) (length row_word_indices.old) (length row_masks.old) (length column_word_ptr.old) (length column_word_indices.old) (length column_masks.old) (length starts.old) (length order.old) (length region.old) (length frontier.old) (length scratch.old) (length global_nodes.old) (length local_row_ptr.old) (length local_col_idx.old) (length source_ptr.old) (length source_indices.old))) nrows ncols (stored row_ptr.now col_idx.now) row_word_ptr.old }
     ensures row_words { row_word_indices.new ≡ built_words (prepare_check (prepare_inputs (matrix_check nrows ncols row_ptr.now col_idx.now values.now) (square_check entity_kinds.now entity_ids.now field_ids.now components.now offsets.now nrows ncols) nrows len words.now) (prepare_room nrows ncols (length col_idx.now) (length row_word_ptr.old) (length row_word_indices.old) (length row_masks.old) (length column_word_ptr.old) (length column_word_indices.old) (length column_masks.old) (length starts.old) (length order.old) (length region.old) (length frontier.old) (length scratch.old) (length global_nodes.old) (length local_row_ptr.old) (length local_col_idx.old) (length source_ptr.old) (length source_indices.old))) nrows ncols (stored row_ptr.now col_idx.now) (length col_idx.now) row_word_indices.old }
@@ -115,7 +109,7 @@ pub fn prepare_region(
     ensures source_pointers { source_ptr.new ≡ prepared_source_ptr (prepare_check (prepare_inputs (matrix_check nrows ncols row_ptr.now col_idx.now values.now) (square_check entity_kinds.now entity_ids.now field_ids.now components.now offsets.now nrows ncols) nrows len words.now) (prepare_room nrows ncols (length col_idx.now) (length row_word_ptr.old) (length row_word_indices.old) (length row_masks.old) (length column_word_ptr.old) (length column_word_indices.old) (length column_masks.old) (length starts.old) (length order.old) (length region.old) (length frontier.old) (length scratch.old) (length global_nodes.old) (length local_row_ptr.old) (length local_col_idx.old) (length source_ptr.old) (length source_indices.old))) (lists_of nrows (region_of row_ptr.now col_idx.now components.now words.now hops) row_ptr.now col_idx.now) (length col_idx.now) source_ptr.old }
     ensures sources { source_indices.new ≡ prepared_sources (prepare_check (prepare_inputs (matrix_check nrows ncols row_ptr.now col_idx.now values.now) (square_check entity_kinds.now entity_ids.now field_ids.now components.now offsets.now nrows ncols) nrows len words.now) (prepare_room nrows ncols (length col_idx.now) (length row_word_ptr.old) (length row_word_indices.old) (length row_masks.old) (length column_word_ptr.old) (length column_word_indices.old) (length column_masks.old) (length starts.old) (length order.old) (length region.old) (length frontier.old) (length scratch.old) (length global_nodes.old) (length local_row_ptr.old) (length local_col_idx.old) (length source_ptr.old) (length source_indices.old))) (lists_of nrows (region_of row_ptr.now col_idx.now components.now words.now hops) row_ptr.now col_idx.now) (length col_idx.now) source_indices.old }
 {
-    match inner::check_inputs(
+    inner::check_inputs(
         nrows,
         ncols,
         row_ptr,
@@ -128,58 +122,54 @@ pub fn prepare_region(
         offsets,
         len,
         words,
-    ) {
-        Checked::Refused(r) => RegionPrepared::Refused(r),
-        Checked::Accepted => match inner::check_room(
-            nrows,
-            ncols,
-            col_idx.len(),
-            row_word_ptr.len(),
-            row_word_indices.len(),
-            row_masks.len(),
-            column_word_ptr.len(),
-            column_word_indices.len(),
-            column_masks.len(),
-            starts.len(),
-            order.len(),
-            region.len(),
-            frontier.len(),
-            scratch.len(),
-            global_nodes.len(),
-            local_row_ptr.len(),
-            local_col_idx.len(),
-            source_ptr.len(),
-            source_indices.len(),
-        ) {
-            Checked::Refused(r) => RegionPrepared::Refused(r),
-            Checked::Accepted => RegionPrepared::Prepared(inner::prepare(
-                nrows,
-                ncols,
-                row_ptr,
-                col_idx,
-                components,
-                offsets,
-                words,
-                hops,
-                row_word_ptr,
-                row_word_indices,
-                row_masks,
-                column_word_ptr,
-                column_word_indices,
-                column_masks,
-                starts,
-                order,
-                region,
-                frontier,
-                scratch,
-                global_nodes,
-                local_row_ptr,
-                local_col_idx,
-                source_ptr,
-                source_indices,
-            )),
-        },
-    }
+    )?;
+    inner::check_room(
+        nrows,
+        ncols,
+        col_idx.len(),
+        row_word_ptr.len(),
+        row_word_indices.len(),
+        row_masks.len(),
+        column_word_ptr.len(),
+        column_word_indices.len(),
+        column_masks.len(),
+        starts.len(),
+        order.len(),
+        region.len(),
+        frontier.len(),
+        scratch.len(),
+        global_nodes.len(),
+        local_row_ptr.len(),
+        local_col_idx.len(),
+        source_ptr.len(),
+        source_indices.len(),
+    )?;
+    Ok(inner::prepare(
+        nrows,
+        ncols,
+        row_ptr,
+        col_idx,
+        components,
+        offsets,
+        words,
+        hops,
+        row_word_ptr,
+        row_word_indices,
+        row_masks,
+        column_word_ptr,
+        column_word_indices,
+        column_masks,
+        starts,
+        order,
+        region,
+        frontier,
+        scratch,
+        global_nodes,
+        local_row_ptr,
+        local_col_idx,
+        source_ptr,
+        source_indices,
+    ))
 }
 
 // The owner of each block, as `field_block_owners` finds it, for the layout of a matrix.
@@ -197,11 +187,11 @@ pub fn validate_block_owners(
     dof_owners: &[u32],
     ranks: u32,
     out: &mut [u32],
-) -> Counted
+) -> Result<u64, Refusal>
     ensures value { result ≡ owners_answer (block_owners_check (matrix_check nrows ncols row_ptr.now col_idx.now values.now) (square_check entity_kinds.now entity_ids.now field_ids.now components.now offsets.now nrows ncols) (owners_check entity_kinds.now entity_ids.now field_ids.now components.now offsets.now dof_owners.now ranks out.old)) components.now }
     ensures owned { out.new ≡ owners_list (block_owners_check (matrix_check nrows ncols row_ptr.now col_idx.now values.now) (square_check entity_kinds.now entity_ids.now field_ids.now components.now offsets.now nrows ncols) (owners_check entity_kinds.now entity_ids.now field_ids.now components.now offsets.now dof_owners.now ranks out.old)) components.now dof_owners.now out.old }
 {
-    match inner::check_owners(
+    inner::check_owners(
         nrows,
         ncols,
         row_ptr,
@@ -215,11 +205,7 @@ pub fn validate_block_owners(
         dof_owners,
         ranks,
         out.len(),
-    ) {
-        Checked::Refused(r) => Counted::Refused(r),
-        Checked::Accepted => {
-            field_region::inner::write_owners(components, offsets, dof_owners, out);
-            Counted::Count(components.len() as u64)
-        }
-    }
+    )?;
+    field_region::inner::write_owners(components, offsets, dof_owners, out);
+    Ok(components.len() as u64)
 }

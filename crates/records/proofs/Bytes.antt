@@ -3,9 +3,10 @@ use mathlib.Core.Path.{◌≡◌, refl, sym, ap, ap₂, ◌∙◌}
 use mathlib.Core.List.{List, [], ◌∷◌, ◌++◌}
 use Prim.Native.Nat.{ℕ, ◌+◌, ◌*◌, ◌/◌, ◌%◌, ◌<◌}
 use native.Mathlib.Omega.{arith}
-use native.Mathlib.Numerals.{add-one}
 use lib.ListN.{length, get_or}
 use lib.Seq.{ext_get_or}
+use Rattle.std.proofs.Common.{w64, rules}
+use Rattle.std.specs.Int.{to_le_bytes}
 use Rattle.base.specs.Lists.{list_from}
 use Rattle.base.proofs.Lists.{length-list_from, get_or-list_from, list_from-append}
 use Rattle.records.specs.Bytes.{shifted, bytes_of}
@@ -18,30 +19,10 @@ pub bytes-none : (l : List ℕ) → [] ≡ bytes_of l 0
 unfolding bytes_of list_from
 bytes-none l = refl
 
--- byte k of a number
-pub byte_next : (value k left : ℕ) → k < 8 → left ≡ shifted value k → bytes_of (value ∷ []) k ++ (left % 256 ∷ []) ≡ bytes_of (value ∷ []) (k + 1)
-unfolding bytes_of list_from
-byte_next value k left h e =
-    sym
-    (list_from-append (λ j. shifted (get_or (value ∷ []) (j / 8) 0) (j % 8) % 256) k 1 0
-    ∙ ap (λ (v : ℕ). bytes_of (value ∷ []) k ++ (v ∷ [])) (here ∙ sym (ap (λ (n : ℕ). n % 256) e)))
-  where
-    zeroth : (0 + k) / 8 ≡ 0
-    zeroth = omega arith
-
-    place : (0 + k) % 8 ≡ k
-    place = omega arith
-
-    here : shifted (get_or (value ∷ []) ((0 + k) / 8) 0) ((0 + k) % 8) % 256 ≡ shifted value k % 256
-    here = ap₂ (λ (a b : ℕ). shifted (get_or (value ∷ []) a 0) b % 256) zeroth place
-
-pub shift-next : (value k : ℕ) → shifted value k / 256 ≡ shifted value (k + 1)
-unfolding shifted
-shift-next value k = sym (ap (shifted value) (add-one k))
-
-pub shift_none : (value : ℕ) → value ≡ shifted value 0
-unfolding shifted
-shift_none value = refl
+-- the library's word for those of a number
+pub le_bytes : (value : ℕ) → to_le_bytes w64 value ≡ bytes_of (value ∷ []) 8
+unfolding bytes_of list_from shifted
+le_bytes value = search rules
 
 -- number k of a list
 pub number-next : (l : List ℕ) (k : ℕ) → bytes_of l (8 * k) ++ bytes_of (get_or l k 0 ∷ []) 8 ≡ bytes_of l (8 * (k + 1))

@@ -1,11 +1,11 @@
 -- What acceptance gives a growth, and its statistics put together. Assumes nothing.
 use mathlib.Core.Path.{◌≡◌, sym, ap, ap₂, ◌∙◌, subst}
+use Rattle.std.specs.Prelude.{Ok}
 use mathlib.Core.List.{List}
 use Prim.Native.Nat.{ℕ, ◌^◌, ◌≤◌, ◌<◌}
 use borrow.Author.Tests.{eqb-true}
 use lib.ListN.{length, get_or}
 use Rattle.base.specs.Sets.{count_below}
-use Rattle.base.specs.declared.Checked.{Checked}
 use Rattle.base.proofs.Checks.{both-passed, passed}
 use Rattle.mask.specs.Mask.{in_mask, words_needed, IsMask}
 use Rattle.mask.proofs.Masks.{accepted-length}
@@ -27,7 +27,7 @@ pub record Accepts (n : ℕ) (ptr idx masks ptr2 idx2 masks2 seeds : List ℕ) (
 
 pub accepted-growth : (nrows ncols : ℕ) (ptr idx masks : List ℕ) (pairs nrows2 ncols2 : ℕ) (ptr2 idx2 masks2 : List ℕ) (pairs2 len : ℕ) (seeds region frontier scratch : List ℕ)
     → ((k : ℕ) → get_or masks k 0 < 2 ^ 64) → ((k : ℕ) → get_or masks2 k 0 < 2 ^ 64) → ((k : ℕ) → get_or seeds k 0 < 2 ^ 64)
-    → grow_check (topology_check nrows ncols ptr idx masks pairs nrows2 ncols2 ptr2 idx2 masks2 pairs2) nrows ncols len seeds region frontier scratch ≡ Checked.Accepted
+    → grow_check (topology_check nrows ncols ptr idx masks pairs nrows2 ncols2 ptr2 idx2 masks2 pairs2) nrows ncols len seeds region frontier scratch ≡ Ok tt
     → Accepts nrows ptr idx masks ptr2 idx2 masks2 seeds (length region) (length frontier) (length scratch)
 unfolding grow_check
 accepted-growth nrows ncols ptr idx masks pairs nrows2 ncols2 ptr2 idx2 masks2 pairs2 len seeds region frontier scratch fits fits2 fits3 e =

@@ -1,19 +1,21 @@
 -- grow_undirected_region: the topology, 10, the mask, 25; the statistics. What its lists hold is in growth's specs/Lent.
 use Rattle.std.specs.Prelude.{List, ℕ, ◌+◌, ◌-◌, ◌^◌, min, eqb, length}
+use Rattle.std.specs.Prelude.{Result}
+use Rattle.base.specs.Checks.{Check, answer}
+use Rattle.base.specs.declared.Refusal.{Refusal}
+use Rattle.base.specs.declared.Refusal.TheVariants.{NotSquare}
 use Rattle.base.specs.Checks.{must, ◌then◌, after}
 use Rattle.base.specs.Sets.{count_below}
-use Rattle.base.specs.declared.Checked.{Checked}
 use Rattle.mask.specs.Mask.{in_mask, length_check}
 use Rattle.graph.specs.Network.{Network, in_region, visited, hops_made}
 use Rattle.growth.specs.Visits.{visits_of}
 use Rattle.growth.specs.Lent.{masks_room}
 use Rattle.region.specs.declared.AbtmRegionGrowthStats.{AbtmRegionGrowthStats}
-use Rattle.region.specs.declared.RegionGrown.{RegionGrown}
 
-unfoldable pub grow_check : Checked → ℕ → ℕ → ℕ → List ℕ → List ℕ → List ℕ → List ℕ → Checked
+unfoldable pub grow_check : Check → ℕ → ℕ → ℕ → List ℕ → List ℕ → List ℕ → List ℕ → Check
 grow_check topology nrows ncols len seeds region frontier scratch =
     topology
-    then must (eqb nrows ncols) 10
+    then must (eqb nrows ncols) NotSquare
     then length_check nrows len seeds
     then masks_room nrows (length region) (length frontier) (length scratch)
 
@@ -32,8 +34,8 @@ stats_of_growth g seeds h =
       candidate_neighbor_bits = visits.candidate_bits;
     }
 
-abbrev pub grow_answer : Checked → Network → List ℕ → ℕ → RegionGrown
-grow_answer check g seeds h = after check (RegionGrown.Grown (stats_of_growth g seeds h)) RegionGrown.Refused
+abbrev pub grow_answer : Check → Network → List ℕ → ℕ → Result AbtmRegionGrowthStats Refusal
+grow_answer check g seeds h = answer check (stats_of_growth g seeds h)
 
 -- ---- two figures of the statistics, by the Rust's formulas: a sum stops at the largest 64-bit number, a difference at 0
 

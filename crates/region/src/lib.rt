@@ -8,7 +8,7 @@ ghost use Rattle.graph.specs.Network.{plain_network};
 ghost use Rattle.growth.specs.Lent.{region_left, frontier_left, scratch_left};
 ghost use Rattle.region.specs.Growth.{grow_check, grow_answer, words_visited, nodes_added};
 
-use base::{Checked, Refusal};
+use base::Refusal;
 
 #[derive(Clone, Copy)]
 pub struct AbtmRegionGrowthStats {
@@ -20,12 +20,6 @@ pub struct AbtmRegionGrowthStats {
     pub row_words_visited: u64,
     pub column_words_visited: u64,
     pub candidate_neighbor_bits: u64,
-}
-
-#[derive(Clone, Copy)]
-pub enum RegionGrown {
-    Grown(AbtmRegionGrowthStats),
-    Refused(Refusal),
 }
 
 impl AbtmRegionGrowthStats {
@@ -67,10 +61,10 @@ fn check_growth(
     region: &[u64],
     frontier: &[u64],
     scratch: &[u64],
-) -> Checked
+) -> Result<(), Refusal>
     ensures { result ≡ grow_check (topology_check nrows ncols row_word_ptr.now row_word_indices.now row_masks.now structural_nnz column_nrows column_ncols column_word_ptr.now column_word_indices.now column_masks.now column_structural_nnz) nrows ncols len words.now region.now frontier.now scratch.now }
 {
-    match dual_topology::validate(
+    dual_topology::validate(
         nrows,
         ncols,
         row_word_ptr,
@@ -83,20 +77,12 @@ fn check_growth(
         column_word_indices,
         column_masks,
         column_structural_nnz,
-    ) {
-        Checked::Refused(r) => Checked::Refused(r),
-        Checked::Accepted => {
-            if nrows != ncols {
-                return base::refused(10);
-            }
-            match mask::inner::check_length(nrows, len, words) {
-                Checked::Refused(r) => Checked::Refused(r),
-                Checked::Accepted => {
-                    growth::inner::check_room(nrows, region.len(), frontier.len(), scratch.len())
-                }
-            }
-        }
+    )?;
+    if nrows != ncols {
+        return Err(Refusal::NotSquare);
     }
+    mask::inner::check_length(nrows, len, words)?;
+    growth::inner::check_room(nrows, region.len(), frontier.len(), scratch.len())
 }
 
 // The nodes within `hops` links of the mask's nodes, and those at exactly so many. The lists take a mask each; `scratch` is left zero.
@@ -119,13 +105,13 @@ pub fn grow_undirected_region(
     region: &mut [u64],
     frontier: &mut [u64],
     scratch: &mut [u64],
-) -> RegionGrown
+) -> Result<AbtmRegionGrowthStats, Refusal>
     ensures value { result ≡ grow_answer (grow_check (topology_check nrows ncols row_word_ptr.now row_word_indices.now row_masks.now structural_nnz column_nrows column_ncols column_word_ptr.now column_word_indices.now column_masks.now column_structural_nnz) nrows ncols len words.now region.old frontier.old scratch.old) (plain_network nrows (side_holds row_word_ptr.now row_word_indices.now row_masks.now)) words.now hops }
     ensures inside { region.new ≡ region_left (grow_check (topology_check nrows ncols row_word_ptr.now row_word_indices.now row_masks.now structural_nnz column_nrows column_ncols column_word_ptr.now column_word_indices.now column_masks.now column_structural_nnz) nrows ncols len words.now region.old frontier.old scratch.old) (plain_network nrows (side_holds row_word_ptr.now row_word_indices.now row_masks.now)) words.now hops region.old }
     ensures edge { frontier.new ≡ frontier_left (grow_check (topology_check nrows ncols row_word_ptr.now row_word_indices.now row_masks.now structural_nnz column_nrows column_ncols column_word_ptr.now column_word_indices.now column_masks.now column_structural_nnz) nrows ncols len words.now region.old frontier.old scratch.old) (plain_network nrows (side_holds row_word_ptr.now row_word_indices.now row_masks.now)) words.now hops frontier.old }
     ensures spent { scratch.new ≡ scratch_left (grow_check (topology_check nrows ncols row_word_ptr.now row_word_indices.now row_masks.now structural_nnz column_nrows column_ncols column_word_ptr.now column_word_indices.now column_masks.now column_structural_nnz) nrows ncols len words.now region.old frontier.old scratch.old) nrows scratch.old }
 {
-    match check_growth(
+    check_growth(
         nrows,
         ncols,
         row_word_ptr,
@@ -143,34 +129,30 @@ pub fn grow_undirected_region(
         region,
         frontier,
         scratch,
-    ) {
-        Checked::Refused(r) => RegionGrown::Refused(r),
-        Checked::Accepted => {
-            let need = mask::inner::words_for(nrows);
-            let grown = growth::inner::grow(
-                nrows,
-                row_word_ptr,
-                row_word_indices,
-                row_masks,
-                column_word_ptr,
-                column_word_indices,
-                column_masks,
-                words,
-                hops,
-                &mut region[..need],
-                &mut frontier[..need],
-                &mut scratch[..need],
-            );
-            RegionGrown::Grown(AbtmRegionGrowthStats {
-                hops_requested: hops,
-                hops_completed: grown.hops,
-                seed_nodes: mask::inner::count(nrows, words),
-                region_nodes: mask::inner::count(nrows, &region[..need]),
-                frontier_nodes_visited: grown.visits.nodes,
-                row_words_visited: grown.visits.row_words,
-                column_words_visited: grown.visits.column_words,
-                candidate_neighbor_bits: grown.visits.candidate_bits,
-            })
-        }
-    }
+    )?;
+    let need = mask::inner::words_for(nrows);
+    let grown = growth::inner::grow(
+        nrows,
+        row_word_ptr,
+        row_word_indices,
+        row_masks,
+        column_word_ptr,
+        column_word_indices,
+        column_masks,
+        words,
+        hops,
+        &mut region[..need],
+        &mut frontier[..need],
+        &mut scratch[..need],
+    );
+    Ok(AbtmRegionGrowthStats {
+        hops_requested: hops,
+        hops_completed: grown.hops,
+        seed_nodes: mask::inner::count(nrows, words),
+        region_nodes: mask::inner::count(nrows, &region[..need]),
+        frontier_nodes_visited: grown.visits.nodes,
+        row_words_visited: grown.visits.row_words,
+        column_words_visited: grown.visits.column_words,
+        candidate_neighbor_bits: grown.visits.candidate_bits,
+    })
 }

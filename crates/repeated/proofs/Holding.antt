@@ -1,5 +1,7 @@
 -- Lists that hold a plan: they are long enough for it, and stay as they are where it is written again. Assumes nothing.
 use mathlib.Core.Path.{◌≡◌, refl, sym, ap, subst}
+use Rattle.std.specs.Prelude.{Ok, Err}
+use Rattle.base.specs.Checks.{Check}
 use mathlib.Core.Bool.{Bool}
 use mathlib.Core.List.{List}
 use Prim.Native.Nat.{ℕ, ◌^◌, ◌≤◌, ◌<◌}
@@ -10,7 +12,6 @@ use lib.ListN.{length, get_or, drop, length-append}
 use Rattle.base.specs.Lists.{over}
 use Rattle.base.specs.Sets.{members_below}
 use Rattle.base.specs.declared.Refusal.{Refusal}
-use Rattle.base.specs.declared.Checked.{Checked}
 use Rattle.base.proofs.Checks.{pass, last-pass, both-pass, both-passed, refused-not-accepted}
 use Rattle.base.proofs.Sets.{count-members}
 use Rattle.mask.specs.Mask.{in_mask}
@@ -25,7 +26,6 @@ use Rattle.gather.specs.Plan.{plan_sources, plan_ptr}
 use Rattle.gather.proofs.Plans.{pointers-length}
 use Rattle.numeric_plan.specs.Plan.{pair_entries, plan_room, plan_inputs, plan_check, plan_answer, source_ptr_left, sources_left}
 use Rattle.numeric_plan.specs.declared.AbtmLocalNumericPlanStats.{AbtmLocalNumericPlanStats}
-use Rattle.numeric_plan.specs.declared.PlanPrepared.{PlanPrepared}
 use Rattle.numeric_plan.proofs.Accepted.{accepted-inputs}
 use Rattle.numeric_plan.proofs.Pairs.{pattern-pairs, lists_length, sources-length}
 use Rattle.numeric_plan.proofs.Prepared.{Room}
@@ -66,7 +66,7 @@ module _ (n : ℕ) (word_ptr indices masks ptr cols words : List ℕ) where
 
     -- and its checks accept them
     pub held-accepted : PlanHeld n word_ptr indices masks ptr cols words nodes local_ptr local_cols source_ptr sources
-        → plan_check (binding_check n (in_mask words) (side_holds word_ptr indices masks) (stored ptr cols)) n (in_mask words) (side_holds word_ptr indices masks) (pair_entries n (in_mask words) (side_holds word_ptr indices masks) ptr cols) nodes local_ptr local_cols source_ptr sources ≡ Checked.Accepted
+        → plan_check (binding_check n (in_mask words) (side_holds word_ptr indices masks) (stored ptr cols)) n (in_mask words) (side_holds word_ptr indices masks) (pair_entries n (in_mask words) (side_holds word_ptr indices masks) ptr cols) nodes local_ptr local_cols source_ptr sources ≡ Ok tt
     unfolding plan_check pattern_room plan_room
     held-accepted h =
         let r = held-room h in
@@ -76,34 +76,18 @@ module _ (n : ℕ) (word_ptr indices masks ptr cols words : List ℕ) where
         (both-pass _ _ (sym (pass _ _ _ _ (le-leb _ _ f.nodes_room) (pass _ _ _ _ (lt-ltb _ _ f.ptr_room) (last-pass _ _ _ (le-leb _ _ f.columns_room) refl))))
         (sym (pass _ _ _ _ (lt-ltb _ _ few) (last-pass _ _ _ (le-leb _ _ r.sources_room) refl))))
 
-    -- other names of the same lists
-    pub held_same : (nodes' local_ptr' local_cols' source_ptr' sources' : List ℕ) → nodes' ≡ nodes → local_ptr' ≡ local_ptr → local_cols' ≡ local_cols → source_ptr' ≡ source_ptr → sources' ≡ sources
-        → PlanHeld n word_ptr indices masks ptr cols words nodes local_ptr local_cols source_ptr sources → PlanHeld n word_ptr indices masks ptr cols words nodes' local_ptr' local_cols' source_ptr' sources'
-    held_same nodes' local_ptr' local_cols' source_ptr' sources' a b c d e h =
-        record {
-          inputs = h.inputs;
-          nodes_held = moved (members_below n p) nodes nodes' a h.nodes_held;
-          ptr_held = moved (pattern_ptr n p s) local_ptr local_ptr' b h.ptr_held;
-          columns_held = moved (pattern_columns n p s) local_cols local_cols' c h.columns_held;
-          starts_held = moved (plan_ptr lists) source_ptr source_ptr' d h.starts_held;
-          sources_held = moved (plan_sources lists) sources sources' e h.sources_held;
-        }
-      where
-        moved : (X l l' : List ℕ) → l' ≡ l → over X l ≡ l → over X l' ≡ l'
-        moved X l l' e h = subst (λ (x : List ℕ). over X x ≡ x) (sym e) h
-
 -- ---- a plan that was prepared
 
-pub plan-accepted : (check : Checked) (n : ℕ) (p : ℕ → Bool) (lists : List (List ℕ)) (stats : AbtmLocalNumericPlanStats) → plan_answer check n p lists ≡ PlanPrepared.Prepared stats → (check ≡ Checked.Accepted) × (stats.source_terms ≡ length (plan_sources lists))
-plan-accepted Checked.Accepted n p lists stats e = (refl, cc)
-plan-accepted (Checked.Refused r) n p lists stats e = let z : ◌≡◌ {A = ℕ} 0 1 = cc in absurd (omega arith)
+pub plan-accepted : (check : Check) (n : ℕ) (p : ℕ → Bool) (lists : List (List ℕ)) (stats : AbtmLocalNumericPlanStats) → plan_answer check n p lists ≡ Ok stats → (check ≡ Ok tt) × (stats.source_terms ≡ length (plan_sources lists))
+plan-accepted (Ok tt) n p lists stats e = (refl, cc)
+plan-accepted (Err r) n p lists stats e = let z : ◌≡◌ {A = ℕ} 0 1 = cc in absurd (omega arith)
 
 -- accepted checks refuse nothing
-pub plan-made : (check : Checked) (n : ℕ) (p : ℕ → Bool) (lists : List (List ℕ)) (r : Refusal) → check ≡ Checked.Accepted → plan_answer check n p lists ≡ PlanPrepared.Refused r → ⊥
-plan-made Checked.Accepted n p lists r a e = let z : ◌≡◌ {A = ℕ} 0 1 = cc in absurd (omega arith)
-plan-made (Checked.Refused q) n p lists r a e = refused-not-accepted q a
+pub plan-made : (check : Check) (n : ℕ) (p : ℕ → Bool) (lists : List (List ℕ)) (r : Refusal) → check ≡ Ok tt → plan_answer check n p lists ≡ Err r → ⊥
+plan-made (Ok tt) n p lists r a e = let z : ◌≡◌ {A = ℕ} 0 1 = cc in absurd (omega arith)
+plan-made (Err q) n p lists r a e = refused-not-accepted q a
 
-inputs-accepted : (inputs : Checked) (n : ℕ) (p : ℕ → Bool) (s : ℕ → ℕ → Bool) (lists : List (List ℕ)) (nodes ptr cols source_ptr sources : List ℕ) → plan_check inputs n p s lists nodes ptr cols source_ptr sources ≡ Checked.Accepted → inputs ≡ Checked.Accepted
+inputs-accepted : (inputs : Check) (n : ℕ) (p : ℕ → Bool) (s : ℕ → ℕ → Bool) (lists : List (List ℕ)) (nodes ptr cols source_ptr sources : List ℕ) → plan_check inputs n p s lists nodes ptr cols source_ptr sources ≡ Ok tt → inputs ≡ Ok tt
 unfolding plan_check
 inputs-accepted _ _ _ _ _ _ _ _ _ _ e = (both-passed _ _ e).0
 
@@ -117,12 +101,12 @@ module _ (nrows ncols : ℕ) (word_ptr indices masks : List ℕ) (pairs nrows2 n
   abbrev entries : List (List ℕ)
   entries = pair_entries nrows q held ptr cols
 
-  abbrev pub whole_check : Checked
+  abbrev pub whole_check : Check
   whole_check =
       plan_check (plan_inputs (matrix_check rows columns ptr cols values) (topology_check nrows ncols word_ptr indices masks pairs nrows2 ncols2 word_ptr2 indices2 masks2 pairs2) rows columns nrows ncols len words held (stored ptr cols)) nrows q held entries nodes₀ local_ptr₀ local_cols₀ source_ptr₀ sources₀
 
   -- the lists that it was lent hold it
-  pub plan-held : ((k : ℕ) → get_or masks k 0 < 2 ^ 64) → ((k : ℕ) → get_or masks2 k 0 < 2 ^ 64) → ((k : ℕ) → get_or words k 0 < 2 ^ 64) → (nodes local_ptr local_cols source_ptr sources : List ℕ) → whole_check ≡ Checked.Accepted
+  pub plan-held : ((k : ℕ) → get_or masks k 0 < 2 ^ 64) → ((k : ℕ) → get_or masks2 k 0 < 2 ^ 64) → ((k : ℕ) → get_or words k 0 < 2 ^ 64) → (nodes local_ptr local_cols source_ptr sources : List ℕ) → whole_check ≡ Ok tt
       → nodes ≡ nodes_left whole_check nrows q nodes₀ → local_ptr ≡ ptr_left whole_check nrows q held local_ptr₀ → local_cols ≡ columns_left whole_check nrows q held local_cols₀
       → source_ptr ≡ source_ptr_left whole_check entries source_ptr₀ → sources ≡ sources_left whole_check entries sources₀
       → PlanHeld nrows word_ptr indices masks ptr cols words nodes local_ptr local_cols source_ptr sources

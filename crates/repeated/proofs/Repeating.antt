@@ -1,5 +1,7 @@
 -- A growth after a growth: what the first left is written again, and one answer is told. Assumes nothing.
 use mathlib.Core.Path.{◌≡◌, refl, sym, ap, ◌∙◌}
+use Rattle.std.specs.Prelude.{Ok, Err}
+use Rattle.base.specs.Checks.{Check, answer}
 use mathlib.Core.Bool.{false}
 use mathlib.Core.List.{List, ◌++◌}
 use Prim.Native.Nat.{ℕ, ◌≤◌}
@@ -8,19 +10,14 @@ use lib.ListN.{length, drop, length-append}
 use lib.Seq.{drop-append_seam}
 use Rattle.base.specs.Checks.{leaves}
 use Rattle.base.specs.Lists.{over}
-use Rattle.base.specs.declared.Checked.{Checked}
-use Rattle.mask.specs.Mask.{words_needed, mask_words}
-use Rattle.mask.proofs.Masks.{mask-length}
+use Rattle.mask.specs.Mask.{mask_words}
 use Rattle.graph.specs.Network.{Network, region_words, frontier_words}
 use Rattle.growth.specs.Visits.{grown_by}
 use Rattle.growth.specs.declared.Grown.{Grown}
-use Rattle.base.proofs.Lists.{part_left, part-long}
-use Rattle.growth.proofs.Lent.{region-length, frontier-length}
+use Rattle.base.proofs.Lists.{part_left}
 use Rattle.region.specs.Growth.{grow_answer}
-use Rattle.region.specs.declared.RegionGrown.{RegionGrown}
 use Rattle.region.specs.declared.AbtmRegionGrowthStats.{AbtmRegionGrowthStats}
 use Rattle.field_region.specs.Growth.{field_grow_answer, blocks_grown_by}
-use Rattle.field_region.specs.declared.FieldGrown.{FieldGrown}
 use Rattle.field_region.specs.declared.FieldAwareRegionStats.{FieldAwareRegionStats}
 use Rattle.field_region.specs.declared.BlocksGrown.{BlocksGrown}
 use Rattle.repeated.specs.Repeated.{value_answer, hops_answer, field_hops_answer}
@@ -32,19 +29,9 @@ pub record Once {A : Type 0} (g : Network) (seeds : List ℕ) (h : ℕ) (answer 
   pub edge : frontier ≡ frontier_words g seeds h
   pub zero : scratch ≡ mask_words g.nodes (λ i. false)
 
-module _ {A : Type 0} (g : Network) (seeds : List ℕ) (h : ℕ) (answer grown : A) (region frontier scratch : List ℕ) (o : Once g seeds h answer grown region frontier scratch) where
-  pub once-region : length region ≡ words_needed g.nodes
-  once-region = ap length o.inside ∙ region-length g seeds h
-
-  pub once-frontier : length frontier ≡ words_needed g.nodes
-  once-frontier = ap length o.edge ∙ frontier-length g seeds h
-
-  pub once-scratch : length scratch ≡ words_needed g.nodes
-  once-scratch = ap length o.zero ∙ mask-length g.nodes (λ i. false)
-
 -- a list that a call left, accepted
-pub left_is : (check : Checked) (new old x : List ℕ) → check ≡ Checked.Accepted → x ≡ leaves check new old → x ≡ new
-left_is check new old x e h = h ∙ ap (λ (t : Checked). leaves t new old) e
+pub left_is : (check : Check) (new old x : List ℕ) → check ≡ Ok tt → x ≡ leaves check new old → x ≡ new
+left_is check new old x e h = h ∙ ap (λ (t : Check). leaves t new old) e
 
 -- and written again with the same answer
 module _ (answer lent x : List ℕ) (need : ℕ) (left : x ≡ over answer lent) (l : need ≡ length answer) where
@@ -57,27 +44,22 @@ module _ (answer lent x : List ℕ) (need : ℕ) (left : x ≡ over answer lent)
       ∙ ap (λ (r : List ℕ). answer ++ drop (length answer) r) left
       ∙ ap (λ (r : List ℕ). answer ++ r) (drop-append_seam answer (drop (length answer) lent))
 
-  pub again-long : (part : List ℕ) → part ≡ answer → need ≤ length lent → length (part ++ drop need x) ≡ length lent
-  again-long part e h =
-      let room : length answer ≤ length lent = omega (arith, h) in
-      ap length (again-left part e) ∙ part-long answer answer lent (length answer) refl refl room
-
 -- ---- an answer that grew was accepted
 
-pub grown-accepted : (check : Checked) (g : Network) (seeds : List ℕ) (h : ℕ) (s : AbtmRegionGrowthStats) → grow_answer check g seeds h ≡ RegionGrown.Grown s → check ≡ Checked.Accepted
-grown-accepted Checked.Accepted g seeds h s e = refl
-grown-accepted (Checked.Refused r) g seeds h s e = let z : ◌≡◌ {A = ℕ} 0 1 = cc in absurd (omega arith)
+pub grown-accepted : (check : Check) (g : Network) (seeds : List ℕ) (h : ℕ) (s : AbtmRegionGrowthStats) → grow_answer check g seeds h ≡ Ok s → check ≡ Ok tt
+grown-accepted (Ok tt) g seeds h s e = refl
+grown-accepted (Err r) g seeds h s e = let z : ◌≡◌ {A = ℕ} 0 1 = cc in absurd (omega arith)
 
-pub field-accepted : (check : Checked) (g : Network) (seeds : List ℕ) (h : ℕ) (s : FieldAwareRegionStats) → field_grow_answer check g seeds h ≡ FieldGrown.Grown s → check ≡ Checked.Accepted
-field-accepted Checked.Accepted g seeds h s e = refl
-field-accepted (Checked.Refused r) g seeds h s e = let z : ◌≡◌ {A = ℕ} 0 1 = cc in absurd (omega arith)
+pub field-accepted : (check : Check) (g : Network) (seeds : List ℕ) (h : ℕ) (s : FieldAwareRegionStats) → field_grow_answer check g seeds h ≡ Ok s → check ≡ Ok tt
+field-accepted (Ok tt) g seeds h s e = refl
+field-accepted (Err r) g seeds h s e = let z : ◌≡◌ {A = ℕ} 0 1 = cc in absurd (omega arith)
 
 -- ---- its hops are told
 
-pub hops-told : (check : Checked) (g : Network) (seeds : List ℕ) (h : ℕ) (x : Grown) → check ≡ Checked.Accepted → x ≡ grown_by g seeds h → value_answer x.hops ≡ hops_answer (grow_answer check g seeds h)
+pub hops-told : (check : Check) (g : Network) (seeds : List ℕ) (h : ℕ) (x : Grown) → check ≡ Ok tt → x ≡ grown_by g seeds h → value_answer x.hops ≡ hops_answer (grow_answer check g seeds h)
 unfolding hops_answer
-hops-told check g seeds h x e ex = ap (λ (y : Grown). value_answer y.hops) ex ∙ ap (λ (t : Checked). hops_answer (grow_answer t g seeds h)) (sym e)
+hops-told check g seeds h x e ex = ap (λ (y : Grown). value_answer y.hops) ex ∙ ap (λ (t : Check). hops_answer (grow_answer t g seeds h)) (sym e)
 
-pub field-hops-told : (check : Checked) (g : Network) (seeds : List ℕ) (h : ℕ) (x : BlocksGrown) → check ≡ Checked.Accepted → x ≡ blocks_grown_by g seeds h → value_answer x.grown.hops ≡ field_hops_answer (field_grow_answer check g seeds h)
+pub field-hops-told : (check : Check) (g : Network) (seeds : List ℕ) (h : ℕ) (x : BlocksGrown) → check ≡ Ok tt → x ≡ blocks_grown_by g seeds h → value_answer x.grown.hops ≡ field_hops_answer (field_grow_answer check g seeds h)
 unfolding field_hops_answer
-field-hops-told check g seeds h x e ex = ap (λ (y : BlocksGrown). value_answer y.grown.hops) ex ∙ ap (λ (t : Checked). field_hops_answer (field_grow_answer t g seeds h)) (sym e)
+field-hops-told check g seeds h x e ex = ap (λ (y : BlocksGrown). value_answer y.grown.hops) ex ∙ ap (λ (t : Check). field_hops_answer (field_grow_answer t g seeds h)) (sym e)

@@ -1,8 +1,8 @@
 -- What an accepted plan leaves, so that it can be made again.
 use Rattle.std.specs.Prelude.{◌≡◌, List, ℕ}
+use Rattle.std.specs.Prelude.{Ok}
 use Rattle.base.specs.Lists.{over}
 use Rattle.base.specs.Sets.{members_below}
-use Rattle.base.specs.declared.Checked.{Checked}
 use Rattle.mask.specs.Mask.{in_mask, IsMask}
 use Rattle.csr32.specs.Matrix.{stored, IsMatrix}
 use Rattle.side.specs.Side.{side_holds}
@@ -17,7 +17,7 @@ pub record Binds (n : ℕ) (word_ptr indices masks ptr cols words : List ℕ) : 
   pub rows : IsSide n n word_ptr indices masks
   pub matrix : IsMatrix n n ptr cols
   pub mask : IsMask n words
-  pub binds : binding_check n (in_mask words) (side_holds word_ptr indices masks) (stored ptr cols) ≡ Checked.Accepted
+  pub binds : binding_check n (in_mask words) (side_holds word_ptr indices masks) (stored ptr cols) ≡ Ok tt
 
 -- and five lists that begin with its plan
 pub record PlanHeld (n : ℕ) (word_ptr indices masks ptr cols words nodes local_ptr local_cols source_ptr sources : List ℕ) : Type 0 where

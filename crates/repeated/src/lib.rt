@@ -15,12 +15,11 @@ ghost use Rattle.growth.specs.Lent.{region_left, frontier_left, scratch_left};
 ghost use Rattle.region.specs.Growth.{grow_check, grow_answer};
 ghost use Rattle.field_region.specs.Growth.{field_grow_check, field_grow_answer, blocks_grown_by};
 ghost use Rattle.field_region.specs.Closure.{close_check, close_answer, closed_words, close_words};
-ghost use Rattle.repeated.specs.Repeated.{hops_answer, field_hops_answer, count_answer};
+ghost use Rattle.repeated.specs.Repeated.{hops_answer, field_hops_answer, count_answer, value_answer, refused_answer};
 
-use base::{Counted, Refusal};
-use field_region::{BlocksGrown, FieldGrown};
+use base::Refusal;
+use field_region::BlocksGrown;
 use growth::Grown;
-use region::RegionGrown;
 
 pub mod local;
 
@@ -33,6 +32,30 @@ pub struct Answer {
     pub expected: u64,
     pub actual: u64,
     pub value: u64,
+}
+
+fn refused(r: Refusal) -> Answer
+    ensures { result ≡ refused_answer r }
+{
+    Answer {
+        number: r.number(),
+        present: false,
+        expected: r.expected(),
+        actual: r.actual(),
+        value: 0,
+    }
+}
+
+fn answered(value: u64) -> Answer
+    ensures { result ≡ value_answer value }
+{
+    Answer {
+        number: 0,
+        present: true,
+        expected: 0,
+        actual: 0,
+        value,
+    }
 }
 
 // One growth, and `times` more.
@@ -71,8 +94,7 @@ fn repeat(
         frontier,
         scratch,
     );
-    let mut t: u64 = 0;
-    while t < times {
+    for _ in 0..times {
         grown = growth::inner::grow(
             n,
             row_word_ptr,
@@ -87,7 +109,6 @@ fn repeat(
             frontier,
             scratch,
         );
-        t += 1;
     }
     grown
 }
@@ -138,14 +159,8 @@ pub fn hybit_repeated_growth(
         frontier,
         scratch,
     ) {
-        RegionGrown::Refused(r) => Answer {
-            number: r.number,
-            present: false,
-            expected: r.expected,
-            actual: r.actual,
-            value: 0,
-        },
-        RegionGrown::Grown(s) => {
+        Err(r) => refused(r),
+        Ok(s) => {
             let need = mask::inner::words_for(nrows);
             let grown = repeat(
                 nrows,
@@ -162,13 +177,7 @@ pub fn hybit_repeated_growth(
                 &mut frontier[..need],
                 &mut scratch[..need],
             );
-            Answer {
-                number: 0,
-                present: true,
-                expected: 0,
-                actual: 0,
-                value: grown.hops,
-            }
+            answered(grown.hops)
         }
     }
 }
@@ -211,8 +220,7 @@ fn repeat_blocks(
         frontier,
         scratch,
     );
-    let mut t: u64 = 0;
-    while t < times {
+    for _ in 0..times {
         grown = field_region::inner::grow_blocks(
             row_word_ptr,
             row_word_indices,
@@ -228,7 +236,6 @@ fn repeat_blocks(
             frontier,
             scratch,
         );
-        t += 1;
     }
     grown
 }
@@ -289,14 +296,8 @@ pub fn hybit_repeated_field_growth(
         frontier,
         scratch,
     ) {
-        FieldGrown::Refused(r) => Answer {
-            number: r.number,
-            present: false,
-            expected: r.expected,
-            actual: r.actual,
-            value: 0,
-        },
-        FieldGrown::Grown(s) => {
+        Err(r) => refused(r),
+        Ok(s) => {
             let need = mask::inner::words_for(nrows);
             let grown = repeat_blocks(
                 row_word_ptr,
@@ -314,13 +315,7 @@ pub fn hybit_repeated_field_growth(
                 &mut frontier[..need],
                 &mut scratch[..need],
             );
-            Answer {
-                number: 0,
-                present: true,
-                expected: 0,
-                actual: 0,
-                value: grown.grown.hops,
-            }
+            answered(grown.grown.hops)
         }
     }
 }
@@ -330,10 +325,8 @@ fn repeat_closing(components: &[u32], offsets: &[u64], words: &[u64], times: u64
     requires { (offsets.now ≡ offsets_of components.now) × (total_of components.now ≤ side_limit) × IsMask (total_of components.now) words.now × (out.old ≡ closed_words components.now words.now) }
     ensures { out.new ≡ out.old }
 {
-    let mut t: u64 = 0;
-    while t < times {
+    for _ in 0..times {
         field_region::inner::close(components, offsets, words, out);
-        t += 1;
     }
 }
 
@@ -362,23 +355,11 @@ pub fn hybit_repeated_closing(
         words,
         out,
     ) {
-        Counted::Refused(r) => Answer {
-            number: r.number,
-            present: false,
-            expected: r.expected,
-            actual: r.actual,
-            value: 0,
-        },
-        Counted::Count(nodes) => {
+        Err(r) => refused(r),
+        Ok(nodes) => {
             let need = mask::inner::words_for(len);
             repeat_closing(components, offsets, words, times, &mut out[..need]);
-            Answer {
-                number: 0,
-                present: true,
-                expected: 0,
-                actual: 0,
-                value: nodes,
-            }
+            answered(nodes)
         }
     }
 }

@@ -11,25 +11,11 @@ ghost use Rattle.pattern.specs.Pattern.{pattern_check, pattern_answer, nodes_lef
 ghost use Rattle.binding.specs.Steps.{sources_inside};
 ghost use Rattle.numeric_plan.specs.Plan.{pair_entries, plan_inputs, plan_check, plan_answer, source_ptr_left, sources_left};
 ghost use Rattle.gather.specs.Gather.{gather_check, gather_answer, gather_left, gathered};
-ghost use Rattle.repeated.specs.Repeated.{pairs_answer, sources_answer, count_answer, refused_answer};
+ghost use Rattle.repeated.specs.Repeated.{pairs_answer, sources_answer, count_answer};
 ghost use Rattle.repeated.specs.Held.{PlanHeld};
 
-use crate::Answer;
-use base::{Counted, Refusal};
-use numeric_plan::PlanPrepared;
-use pattern::PatternExtracted;
-
-fn refused(r: Refusal) -> Answer
-    ensures { result ≡ refused_answer r }
-{
-    Answer {
-        number: r.number,
-        present: false,
-        expected: r.expected,
-        actual: r.actual,
-        value: 0,
-    }
-}
+use crate::{Answer, answered, refused};
+use base::Refusal;
 
 // The pattern `times` more, on lists that hold it: they stay as they are.
 fn repeat_pattern(
@@ -48,8 +34,7 @@ fn repeat_pattern(
     ensures pointers { row_ptr.new ≡ row_ptr.old }
     ensures columns { col_idx.new ≡ col_idx.old }
 {
-    let mut t: u64 = 0;
-    while t < times {
+    for _ in 0..times {
         pattern::inner::write(
             n,
             row_word_ptr,
@@ -60,7 +45,6 @@ fn repeat_pattern(
             row_ptr,
             col_idx,
         );
-        t += 1;
     }
 }
 
@@ -109,8 +93,8 @@ pub fn hybit_repeated_pattern(
         row_ptr,
         col_idx,
     ) {
-        PatternExtracted::Refused(r) => refused(r),
-        PatternExtracted::Extracted(s) => {
+        Err(r) => refused(r),
+        Ok(s) => {
             repeat_pattern(
                 nrows,
                 row_word_ptr,
@@ -122,13 +106,7 @@ pub fn hybit_repeated_pattern(
                 row_ptr,
                 col_idx,
             );
-            Answer {
-                number: 0,
-                present: true,
-                expected: 0,
-                actual: 0,
-                value: s.local_nnz as u64,
-            }
+            answered(s.local_nnz as u64)
         }
     }
 }
@@ -170,8 +148,8 @@ fn plan_again(
         source_ptr,
         sources,
     ) {
-        PlanPrepared::Refused(_) => 0,
-        PlanPrepared::Prepared(s) => s.source_terms as usize,
+        Err(_) => 0,
+        Ok(s) => s.source_terms as usize,
     }
 }
 
@@ -201,8 +179,7 @@ fn repeat_plan(
     ensures entries { sources.new ≡ sources.old }
 {
     let mut terms = first;
-    let mut t: u64 = 0;
-    while t < times {
+    for _ in 0..times {
         terms = plan_again(
             n,
             row_word_ptr,
@@ -217,7 +194,6 @@ fn repeat_plan(
             source_ptr,
             sources,
         );
-        t += 1;
     }
     terms
 }
@@ -283,8 +259,8 @@ pub fn hybit_repeated_plan(
         source_ptr,
         source_indices,
     ) {
-        PlanPrepared::Refused(r) => refused(r),
-        PlanPrepared::Prepared(s) => {
+        Err(r) => refused(r),
+        Ok(s) => {
             let terms = repeat_plan(
                 nrows,
                 row_word_ptr,
@@ -301,13 +277,7 @@ pub fn hybit_repeated_plan(
                 source_ptr,
                 source_indices,
             );
-            Answer {
-                number: 0,
-                present: true,
-                expected: 0,
-                actual: 0,
-                value: terms as u64,
-            }
+            answered(terms as u64)
         }
     }
 }
@@ -317,10 +287,8 @@ fn repeat_gather(ptr: &[u32], sources: &[u32], values: &[f64], times: u64, out: 
     requires { (0 < length ptr.now) × (get_or ptr.now 0 0 ≡ 0) × (rising ptr.now ≡ true) × (get_or ptr.now (length ptr.now - 1) 0 ≡ length sources.now) × (every (below (length values.now)) sources.now ≡ true) × (length ptr.now - 1 ≤ length out.old) × (over (gathered ptr.now sources.now values.now) out.old ≡ out.old) }
     ensures { out.new ≡ out.old }
 {
-    let mut t: u64 = 0;
-    while t < times {
+    for _ in 0..times {
         gather::inner::gather(ptr, sources, values, out);
-        t += 1;
     }
 }
 
@@ -337,16 +305,10 @@ pub fn hybit_repeated_gather(
     ensures out_after { out.new ≡ gather_left (gather_check source_ptr.now source_indices.now source_value_len values.now out.old) source_ptr.now source_indices.now values.now out.old }
 {
     match gather::gather_values(source_ptr, source_indices, source_value_len, values, out) {
-        Counted::Refused(r) => refused(r),
-        Counted::Count(pairs) => {
+        Err(r) => refused(r),
+        Ok(pairs) => {
             repeat_gather(source_ptr, source_indices, values, times, out);
-            Answer {
-                number: 0,
-                present: true,
-                expected: 0,
-                actual: 0,
-                value: pairs,
-            }
+            answered(pairs)
         }
     }
 }

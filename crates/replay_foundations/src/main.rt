@@ -5,11 +5,9 @@
 ghost use Rattle.std.specs.Prelude.{◌≡◌, ◌≤◌, length};
 
 use hybit_matrix::Answer;
-use records::inner::{
-    count_at, digit, number_at, put_list, put_number, read_list, read_narrow, read_reals,
-};
-use std::io::{self, Read, Write};
-use streams::read_full;
+use records::inner::{count_at, digit, number_at, put_list, put_number, read_list};
+use std::io;
+use streams::answer_records;
 
 fn put_answer(out: &mut [u8], a: Answer)
     requires { length out.old ≡ 168 }
@@ -48,14 +46,14 @@ fn matrix_call(call: &[u8]) -> Answer
     requires { length call.now ≡ 448 }
 {
     let mut row_ptr = [0u32; 16];
-    read_narrow(call, 64, &mut row_ptr);
+    read_list(call, 64, &mut row_ptr);
     let mut col_idx = [0u32; 16];
-    read_narrow(call, 192, &mut col_idx);
+    read_list(call, 192, &mut col_idx);
     let mut values = [0.0; 16];
-    read_reals(call, 320, &mut values);
-    let rows = count_at(call, 40);
-    let cols = count_at(call, 48);
-    let reals = count_at(call, 56);
+    read_list(call, 320, &mut values);
+    let rows = count_at(call, 40, 16);
+    let cols = count_at(call, 48, 16);
+    let reals = count_at(call, 56, 16);
     hybit_matrix::hybit_csr32_validate(
         number_at(call, 8) as usize,
         number_at(call, 16) as usize,
@@ -119,8 +117,8 @@ fn mask_call(code: u8, call: &[u8], out: &mut [u8])
     let len = number_at(call, 8) as usize;
     let b = number_at(call, 16);
     let c = number_at(call, 24);
-    let n1 = count_at(call, 40);
-    let n2 = count_at(call, 48);
+    let n1 = count_at(call, 40, 16);
+    let n2 = count_at(call, 48, 16);
     let mut list1 = [0u64; 16];
     read_list(call, 64, &mut list1);
     let mut list2 = [0u64; 16];
@@ -155,25 +153,8 @@ fn answer(call: &[u8], out: &mut [u8])
     mask_call(code, call, out);
 }
 
-// Whether there was a whole record to answer.
-fn turn<R: Read, W: Write>(input: &mut R, output: &mut W) -> io::Result<bool> {
-    let mut call = [0u8; 448];
-    if read_full(input, &mut call)? < 448 {
-        return Ok(false);
-    }
-    let mut out = [0u8; 168];
-    answer(&call, &mut out);
-    output.write_all(&out)?;
-    Ok(true)
-}
-
 fn main(rt: HostRuntime) -> io::Result<()> {
     let mut input = rt.reader();
     let mut output = io::writer(&rt);
-    for _ in 0..u64::MAX {
-        if !turn(&mut input, &mut output)? {
-            break;
-        }
-    }
-    Ok(())
+    answer_records::<448, 168, _, _, _>(&mut input, &mut output, answer)
 }

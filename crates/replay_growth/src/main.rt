@@ -2,16 +2,14 @@
 // each an answer record of 848 bytes on standard output. oracle/README.md says what a record holds and how the records are made.
 #![tactic(auto)]
 
-ghost use Rattle.std.specs.Prelude.{◌≡◌, ◌+◌, ◌≤◌, length};
+ghost use Rattle.std.specs.Prelude.{◌≡◌, ◌≤◌, length};
 
 use hybit_matrix::Answer;
 use hybit_matrix::regions::{FieldGrowthAnswer, GrowthAnswer, MultiplicityAnswer};
-use records::inner::{
-    bits, count_at, count_within, digit, number_at, put_list, put_narrow, read_bytes, read_list,
-    read_narrow,
-};
-use std::io::{self, Read, Write};
-use streams::read_full;
+use records::inner::{count_at, digit, number_at, put_list, read_list};
+use std::io;
+use std::num::f64_to_bits_with_nan;
+use streams::answer_records;
 
 // ---- answers
 
@@ -78,8 +76,8 @@ fn field_grown(a: FieldGrowthAnswer) -> [u64; 14] {
 
 fn counted(a: MultiplicityAnswer) -> [u64; 14] {
     let present = digit(a.present);
-    let average = bits(a.average_multiplicity_on_covered);
-    let fraction = bits(a.overlap_fraction_on_covered);
+    let average = f64_to_bits_with_nan(a.average_multiplicity_on_covered);
+    let fraction = f64_to_bits_with_nan(a.overlap_fraction_on_covered);
     [
         a.number as u64,
         present,
@@ -126,18 +124,6 @@ fn sizes_of(call: &[u8]) -> Sizes
         len: number_at(call, 56) as usize,
         hops: number_at(call, 64),
     }
-}
-
-// A mask's words, of which there is room for 4.
-fn mask_at(call: &[u8], at: usize) -> [u64; 4]
-    requires { at + 32 ≤ length call.now }
-{
-    [
-        number_at(call, at),
-        number_at(call, at + 8),
-        number_at(call, at + 16),
-        number_at(call, at + 24),
-    ]
 }
 
 fn put_masks(out: &mut [u8], region: &[u64], frontier: &[u64], scratch: &[u64])
@@ -268,14 +254,18 @@ fn masks_too(
 )
     requires { (length call.now ≡ 2376) × (length out.old ≡ 848) }
 {
-    let n12 = count_within(call, 160, 4);
-    let n13 = count_within(call, 168, 4);
-    let n14 = count_within(call, 176, 4);
-    let n15 = count_within(call, 184, 4);
-    let words = mask_at(call, 1608);
-    let mut region = mask_at(call, 1640);
-    let mut frontier = mask_at(call, 1672);
-    let mut scratch = mask_at(call, 1704);
+    let n12 = count_at(call, 160, 4);
+    let n13 = count_at(call, 168, 4);
+    let n14 = count_at(call, 176, 4);
+    let n15 = count_at(call, 184, 4);
+    let mut words = [0u64; 4];
+    read_list(call, 1608, &mut words);
+    let mut region = [0u64; 4];
+    read_list(call, 1640, &mut region);
+    let mut frontier = [0u64; 4];
+    read_list(call, 1672, &mut frontier);
+    let mut scratch = [0u64; 4];
+    read_list(call, 1704, &mut scratch);
     run_growth(
         code,
         kinds,
@@ -314,13 +304,13 @@ fn columns_too(
 )
     requires { (length call.now ≡ 2376) × (length out.old ≡ 848) }
 {
-    let n4 = count_at(call, 96);
-    let n5 = count_at(call, 104);
-    let n6 = count_at(call, 112);
+    let n4 = count_at(call, 96, 16);
+    let n5 = count_at(call, 104, 16);
+    let n6 = count_at(call, 112, 16);
     let mut ptr = [0u32; 16];
-    read_narrow(call, 584, &mut ptr);
+    read_list(call, 584, &mut ptr);
     let mut words = [0u32; 16];
-    read_narrow(call, 712, &mut words);
+    read_list(call, 712, &mut words);
     let mut masks = [0u64; 16];
     read_list(call, 840, &mut masks);
     masks_too(
@@ -354,13 +344,13 @@ fn growth(
 )
     requires { (length call.now ≡ 2376) × (length out.old ≡ 848) }
 {
-    let n1 = count_at(call, 72);
-    let n2 = count_at(call, 80);
-    let n3 = count_at(call, 88);
+    let n1 = count_at(call, 72, 16);
+    let n2 = count_at(call, 80, 16);
+    let n3 = count_at(call, 88, 16);
     let mut ptr = [0u32; 16];
-    read_narrow(call, 200, &mut ptr);
+    read_list(call, 200, &mut ptr);
     let mut words = [0u32; 16];
-    read_narrow(call, 328, &mut words);
+    read_list(call, 328, &mut words);
     let mut masks = [0u64; 16];
     read_list(call, 456, &mut masks);
     columns_too(
@@ -411,11 +401,13 @@ fn closing(
 )
     requires { (length call.now ≡ 2376) × (length out.old ≡ 848) }
 {
-    let n12 = count_within(call, 160, 4);
-    let n13 = count_within(call, 168, 4);
+    let n12 = count_at(call, 160, 4);
+    let n13 = count_at(call, 168, 4);
     let len = number_at(call, 8) as usize;
-    let words = mask_at(call, 1608);
-    let mut closed = mask_at(call, 1640);
+    let mut words = [0u64; 4];
+    read_list(call, 1608, &mut words);
+    let mut closed = [0u64; 4];
+    read_list(call, 1640, &mut closed);
     run_closing(
         kinds,
         ids,
@@ -446,7 +438,7 @@ fn run_owners(
         kinds, ids, fields, sizes, offsets, dof_owners, ranks, found,
     ));
     put_list(out, 0, &answer);
-    put_narrow(out, 208, found);
+    put_list(out, 208, found);
 }
 
 fn owners(
@@ -460,13 +452,13 @@ fn owners(
 )
     requires { (length call.now ≡ 2376) × (length out.old ≡ 848) }
 {
-    let n1 = count_at(call, 72);
-    let n16 = count_within(call, 192, 80);
+    let n1 = count_at(call, 72, 16);
+    let n16 = count_at(call, 192, 80);
     let ranks = (number_at(call, 8) % 4294967296) as u32;
     let mut dof_owners = [0u32; 16];
-    read_narrow(call, 200, &mut dof_owners);
+    read_list(call, 200, &mut dof_owners);
     let mut found = [0u32; 80];
-    read_narrow(call, 1736, &mut found);
+    read_list(call, 1736, &mut found);
     run_owners(
         kinds,
         ids,
@@ -503,19 +495,19 @@ fn block_call(
 fn layout_call(code: u8, call: &[u8], out: &mut [u8])
     requires { (length call.now ≡ 2376) × (length out.old ≡ 848) }
 {
-    let n7 = count_at(call, 120);
-    let n8 = count_at(call, 128);
-    let n9 = count_at(call, 136);
-    let n10 = count_at(call, 144);
-    let n11 = count_at(call, 152);
+    let n7 = count_at(call, 120, 16);
+    let n8 = count_at(call, 128, 16);
+    let n9 = count_at(call, 136, 16);
+    let n10 = count_at(call, 144, 16);
+    let n11 = count_at(call, 152, 16);
     let mut kinds = [0u8; 16];
-    read_bytes(call, 968, &mut kinds);
+    read_list(call, 968, &mut kinds);
     let mut ids = [0u64; 16];
     read_list(call, 1096, &mut ids);
     let mut fields = [0u32; 16];
-    read_narrow(call, 1224, &mut fields);
+    read_list(call, 1224, &mut fields);
     let mut sizes = [0u32; 16];
-    read_narrow(call, 1352, &mut sizes);
+    read_list(call, 1352, &mut sizes);
     let mut offsets = [0u64; 16];
     read_list(call, 1480, &mut offsets);
     block_call(
@@ -539,15 +531,15 @@ fn run_multiplicity(nodes: usize, regions: usize, words: &[u64], counts: &mut [u
         nodes, regions, words, counts,
     ));
     put_list(out, 0, &answer);
-    put_narrow(out, 208, counts);
+    put_list(out, 208, counts);
 }
 
 fn multiplicity(nodes: usize, regions: usize, words: &[u64], call: &[u8], out: &mut [u8])
     requires { (length call.now ≡ 2376) × (length out.old ≡ 848) }
 {
-    let n16 = count_within(call, 192, 80);
+    let n16 = count_at(call, 192, 80);
     let mut counts = [0u32; 80];
-    read_narrow(call, 1736, &mut counts);
+    read_list(call, 1736, &mut counts);
     run_multiplicity(nodes, regions, words, &mut counts[0..n16], out);
 }
 
@@ -563,7 +555,7 @@ fn weight(nodes: usize, regions: usize, words: &[u64], call: &[u8], out: &mut [u
 fn regions_call(code: u8, call: &[u8], out: &mut [u8])
     requires { (length call.now ≡ 2376) × (length out.old ≡ 848) }
 {
-    let n3 = count_at(call, 88);
+    let n3 = count_at(call, 88, 16);
     let nodes = number_at(call, 8) as usize;
     let regions = number_at(call, 16) as usize;
     let mut words = [0u64; 16];
@@ -586,25 +578,8 @@ fn answer(call: &[u8], out: &mut [u8])
     }
 }
 
-// Whether there was a whole record to answer.
-fn turn<R: Read, W: Write>(input: &mut R, output: &mut W) -> io::Result<bool> {
-    let mut call = [0u8; 2376];
-    if read_full(input, &mut call)? < 2376 {
-        return Ok(false);
-    }
-    let mut out = [0u8; 848];
-    answer(&call, &mut out);
-    output.write_all(&out)?;
-    Ok(true)
-}
-
 fn main(rt: HostRuntime) -> io::Result<()> {
     let mut input = rt.reader();
     let mut output = io::writer(&rt);
-    for _ in 0..u64::MAX {
-        if !turn(&mut input, &mut output)? {
-            break;
-        }
-    }
-    Ok(())
+    answer_records::<2376, 848, _, _, _>(&mut input, &mut output, answer)
 }

@@ -3,7 +3,7 @@
 
 ghost use Rattle.std.specs.Prelude.{◌≤◌, length as List·length};
 
-use base::Counted;
+use base::Refusal;
 use records::inner::number_at;
 use std::io::{self, Read, Write};
 use streams::read_full;
@@ -12,8 +12,8 @@ use streams::read_full;
 fn answer<W: Write>(text: &[u8], output: &mut W) -> io::Result<bool> {
     let mut out = [0u8; 40960];
     match peak_job::run(text, &mut out) {
-        Counted::Refused(_) => Ok(false),
-        Counted::Count(n) => {
+        Err(_) => Ok(false),
+        Ok(n) => {
             let length = n as usize;
             output.write_all(&out[0..length])?;
             Ok(true)

@@ -5,11 +5,9 @@
 ghost use Rattle.std.specs.Prelude.{◌≡◌, ◌≤◌, length};
 
 use hybit_matrix::{Answer, PairAnswer};
-use records::inner::{
-    count_at, digit, number_at, put_list, put_number, read_bytes, read_list, read_narrow,
-};
-use std::io::{self, Read, Write};
-use streams::read_full;
+use records::inner::{count_at, digit, number_at, put_list, put_number, read_list};
+use std::io;
+use streams::answer_records;
 
 fn put_pair(out: &mut [u8], a: PairAnswer)
     requires { length out.old ≡ 176 }
@@ -128,8 +126,8 @@ fn block_call(
 {
     let a = number_at(call, 8);
     let b = number_at(call, 16);
-    let n5 = count_at(call, 72);
-    let n6 = count_at(call, 80);
+    let n5 = count_at(call, 72, 16);
+    let n6 = count_at(call, 80, 16);
     let mut offsets = [0u64; 16];
     read_list(call, 600, &mut offsets);
     let mut list = [0u64; 16];
@@ -156,18 +154,18 @@ fn block_call(
 fn layout_call(code: u8, call: &[u8], out: &mut [u8])
     requires { (length call.now ≡ 856) × (length out.old ≡ 176) }
 {
-    let n1 = count_at(call, 40);
-    let n2 = count_at(call, 48);
-    let n3 = count_at(call, 56);
-    let n4 = count_at(call, 64);
+    let n1 = count_at(call, 40, 16);
+    let n2 = count_at(call, 48, 16);
+    let n3 = count_at(call, 56, 16);
+    let n4 = count_at(call, 64, 16);
     let mut kinds = [0u8; 16];
-    read_bytes(call, 88, &mut kinds);
+    read_list(call, 88, &mut kinds);
     let mut ids = [0u64; 16];
     read_list(call, 216, &mut ids);
     let mut fields = [0u32; 16];
-    read_narrow(call, 344, &mut fields);
+    read_list(call, 344, &mut fields);
     let mut sizes = [0u32; 16];
-    read_narrow(call, 472, &mut sizes);
+    read_list(call, 472, &mut sizes);
     block_call(
         code,
         &kinds[0..n1],
@@ -191,25 +189,8 @@ fn answer(call: &[u8], out: &mut [u8])
     layout_call(code, call, out);
 }
 
-// Whether there was a whole record to answer.
-fn turn<R: Read, W: Write>(input: &mut R, output: &mut W) -> io::Result<bool> {
-    let mut call = [0u8; 856];
-    if read_full(input, &mut call)? < 856 {
-        return Ok(false);
-    }
-    let mut out = [0u8; 176];
-    answer(&call, &mut out);
-    output.write_all(&out)?;
-    Ok(true)
-}
-
 fn main(rt: HostRuntime) -> io::Result<()> {
     let mut input = rt.reader();
     let mut output = io::writer(&rt);
-    for _ in 0..u64::MAX {
-        if !turn(&mut input, &mut output)? {
-            break;
-        }
-    }
-    Ok(())
+    answer_records::<856, 176, _, _, _>(&mut input, &mut output, answer)
 }

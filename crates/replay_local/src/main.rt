@@ -7,12 +7,10 @@ ghost use Rattle.std.specs.Prelude.{◌≡◌, length};
 
 use hybit_matrix::Answer;
 use hybit_matrix::local::{PatternAnswer, PlanAnswer};
-use records::inner::{
-    bits, count_at, count_within, digit, number_at, put_list, put_narrow, put_number, read_list,
-    read_narrow, read_reals,
-};
-use std::io::{self, Read, Write};
-use streams::read_full;
+use records::inner::{count_at, digit, number_at, put_list, read_list};
+use std::io;
+use std::num::f64_to_bits_with_nan;
+use streams::answer_records;
 
 // ---- answers
 
@@ -39,8 +37,8 @@ fn single(a: Answer) -> [u64; 14] {
 
 fn extracted(a: PatternAnswer) -> [u64; 14] {
     let present = digit(a.present);
-    let pruning = bits(a.structural_pruning_ratio);
-    let average = bits(a.average_local_row_nnz);
+    let pruning = f64_to_bits_with_nan(a.structural_pruning_ratio);
+    let average = f64_to_bits_with_nan(a.average_local_row_nnz);
     [
         a.number as u64,
         present,
@@ -106,18 +104,6 @@ fn sizes_of(call: &[u8]) -> Sizes
     }
 }
 
-// The mask's words, of which there is room for 4.
-fn mask_of(call: &[u8]) -> [u64; 4]
-    requires { length call.now ≡ 2160 }
-{
-    [
-        number_at(call, 1360),
-        number_at(call, 1368),
-        number_at(call, 1376),
-        number_at(call, 1384),
-    ]
-}
-
 fn put_answer(out: &mut [u8], answer: &[u64; 14])
     requires { length out.old ≡ 880 }
 {
@@ -128,26 +114,16 @@ fn put_answer(out: &mut [u8], answer: &[u64; 14])
 fn put_pattern(out: &mut [u8], nodes: &[u32; 16], ptr: &[u32; 16], cols: &[u32; 16])
     requires { length out.old ≡ 880 }
 {
-    put_narrow(out, 112, nodes);
-    put_narrow(out, 240, ptr);
-    put_narrow(out, 368, cols);
+    put_list(out, 112, nodes);
+    put_list(out, 240, ptr);
+    put_list(out, 368, cols);
 }
 
 fn put_sources(out: &mut [u8], source_ptr: &[u32; 16], sources: &[u32; 16])
     requires { length out.old ≡ 880 }
 {
-    put_narrow(out, 496, source_ptr);
-    put_narrow(out, 624, sources);
-}
-
-fn put_gathered(out: &mut [u8], gathered: &[f64; 16])
-    requires { length out.old ≡ 880 }
-{
-    let mut k: usize = 0;
-    while k < 16 {
-        put_number(out, 752 + 8 * k, bits(gathered[k]));
-        k += 1;
-    }
+    put_list(out, 496, source_ptr);
+    put_list(out, 624, sources);
 }
 
 // ---- pattern
@@ -202,17 +178,18 @@ fn pattern(
 {
     let n = sizes_of(call);
     let len = number_at(call, 56) as usize;
-    let n10 = count_within(call, 152, 4);
-    let n11 = count_at(call, 160);
-    let n12 = count_at(call, 168);
-    let n13 = count_at(call, 176);
-    let words = mask_of(call);
+    let n10 = count_at(call, 152, 4);
+    let n11 = count_at(call, 160, 16);
+    let n12 = count_at(call, 168, 16);
+    let n13 = count_at(call, 176, 16);
+    let mut words = [0u64; 4];
+    read_list(call, 1360, &mut words);
     let mut nodes = [0u32; 16];
-    read_narrow(call, 1392, &mut nodes);
+    read_list(call, 1392, &mut nodes);
     let mut ptr = [0u32; 16];
-    read_narrow(call, 1520, &mut ptr);
+    read_list(call, 1520, &mut ptr);
     let mut cols = [0u32; 16];
-    read_narrow(call, 1648, &mut cols);
+    read_list(call, 1648, &mut cols);
     let answer = run_pattern(
         ptr_a,
         words_a,
@@ -306,12 +283,12 @@ fn sources_too(
     let matrix_nrows = number_at(call, 56) as usize;
     let matrix_ncols = number_at(call, 64) as usize;
     let len = number_at(call, 72) as usize;
-    let n14 = count_at(call, 184);
-    let n15 = count_at(call, 192);
+    let n14 = count_at(call, 184, 16);
+    let n15 = count_at(call, 192, 16);
     let mut source_ptr = [0u32; 16];
-    read_narrow(call, 1776, &mut source_ptr);
+    read_list(call, 1776, &mut source_ptr);
     let mut sources = [0u32; 16];
-    read_narrow(call, 1904, &mut sources);
+    read_list(call, 1904, &mut sources);
     let answer = run_plan(
         ptr_a,
         words_a,
@@ -353,17 +330,18 @@ fn mask_too(
 )
     requires { (length call.now ≡ 2160) × (length out.old ≡ 880) }
 {
-    let n10 = count_within(call, 152, 4);
-    let n11 = count_at(call, 160);
-    let n12 = count_at(call, 168);
-    let n13 = count_at(call, 176);
-    let words = mask_of(call);
+    let n10 = count_at(call, 152, 4);
+    let n11 = count_at(call, 160, 16);
+    let n12 = count_at(call, 168, 16);
+    let n13 = count_at(call, 176, 16);
+    let mut words = [0u64; 4];
+    read_list(call, 1360, &mut words);
     let mut nodes = [0u32; 16];
-    read_narrow(call, 1392, &mut nodes);
+    read_list(call, 1392, &mut nodes);
     let mut ptr = [0u32; 16];
-    read_narrow(call, 1520, &mut ptr);
+    read_list(call, 1520, &mut ptr);
     let mut cols = [0u32; 16];
-    read_narrow(call, 1648, &mut cols);
+    read_list(call, 1648, &mut cols);
     sources_too(
         ptr_a,
         words_a,
@@ -397,15 +375,15 @@ fn plan(
 )
     requires { (length call.now ≡ 2160) × (length out.old ≡ 880) }
 {
-    let n7 = count_at(call, 128);
-    let n8 = count_at(call, 136);
-    let n9 = count_at(call, 144);
+    let n7 = count_at(call, 128, 16);
+    let n8 = count_at(call, 136, 16);
+    let n9 = count_at(call, 144, 16);
     let mut row_ptr = [0u32; 16];
-    read_narrow(call, 976, &mut row_ptr);
+    read_list(call, 976, &mut row_ptr);
     let mut col_idx = [0u32; 16];
-    read_narrow(call, 1104, &mut col_idx);
+    read_list(call, 1104, &mut col_idx);
     let mut values = [0.0f64; 16];
-    read_reals(call, 1232, &mut values);
+    read_list(call, 1232, &mut values);
     mask_too(
         ptr_a,
         words_a,
@@ -434,13 +412,13 @@ fn columns_too(
 )
     requires { (length call.now ≡ 2160) × (length out.old ≡ 880) }
 {
-    let n4 = count_at(call, 104);
-    let n5 = count_at(call, 112);
-    let n6 = count_at(call, 120);
+    let n4 = count_at(call, 104, 16);
+    let n5 = count_at(call, 112, 16);
+    let n6 = count_at(call, 120, 16);
     let mut ptr = [0u32; 16];
-    read_narrow(call, 592, &mut ptr);
+    read_list(call, 592, &mut ptr);
     let mut words = [0u32; 16];
-    read_narrow(call, 720, &mut words);
+    read_list(call, 720, &mut words);
     let mut masks = [0u64; 16];
     read_list(call, 848, &mut masks);
     match code {
@@ -471,13 +449,13 @@ fn columns_too(
 fn topology_call(code: u8, call: &[u8], out: &mut [u8])
     requires { (length call.now ≡ 2160) × (length out.old ≡ 880) }
 {
-    let n1 = count_at(call, 80);
-    let n2 = count_at(call, 88);
-    let n3 = count_at(call, 96);
+    let n1 = count_at(call, 80, 16);
+    let n2 = count_at(call, 88, 16);
+    let n3 = count_at(call, 96, 16);
     let mut ptr = [0u32; 16];
-    read_narrow(call, 208, &mut ptr);
+    read_list(call, 208, &mut ptr);
     let mut words = [0u32; 16];
-    read_narrow(call, 336, &mut words);
+    read_list(call, 336, &mut words);
     let mut masks = [0u64; 16];
     read_list(call, 464, &mut masks);
     columns_too(code, &ptr[0..n1], &words[0..n2], &masks[0..n3], call, out);
@@ -489,10 +467,10 @@ fn topology_call(code: u8, call: &[u8], out: &mut [u8])
 fn gather(source_ptr: &[u32], sources: &[u32], values: &[f64], call: &[u8], out: &mut [u8])
     requires { (length call.now ≡ 2160) × (length out.old ≡ 880) }
 {
-    let n16 = count_at(call, 200);
+    let n16 = count_at(call, 200, 16);
     let len = number_at(call, 8) as usize;
     let mut gathered = [0.0f64; 16];
-    read_reals(call, 2032, &mut gathered);
+    read_list(call, 2032, &mut gathered);
     let answer = single(hybit_matrix::local::hybit_gather_values(
         source_ptr,
         sources,
@@ -501,21 +479,21 @@ fn gather(source_ptr: &[u32], sources: &[u32], values: &[f64], call: &[u8], out:
         &mut gathered[0..n16],
     ));
     put_answer(out, &answer);
-    put_gathered(out, &gathered);
+    put_list(out, 752, &gathered);
 }
 
 fn gather_call(call: &[u8], out: &mut [u8])
     requires { (length call.now ≡ 2160) × (length out.old ≡ 880) }
 {
-    let n7 = count_at(call, 128);
-    let n8 = count_at(call, 136);
-    let n9 = count_at(call, 144);
+    let n7 = count_at(call, 128, 16);
+    let n8 = count_at(call, 136, 16);
+    let n9 = count_at(call, 144, 16);
     let mut source_ptr = [0u32; 16];
-    read_narrow(call, 976, &mut source_ptr);
+    read_list(call, 976, &mut source_ptr);
     let mut sources = [0u32; 16];
-    read_narrow(call, 1104, &mut sources);
+    read_list(call, 1104, &mut sources);
     let mut values = [0.0f64; 16];
-    read_reals(call, 1232, &mut values);
+    read_list(call, 1232, &mut values);
     gather(
         &source_ptr[0..n7],
         &sources[0..n8],
@@ -537,25 +515,8 @@ fn answer(call: &[u8], out: &mut [u8])
     }
 }
 
-// Whether there was a whole record to answer.
-fn turn<R: Read, W: Write>(input: &mut R, output: &mut W) -> io::Result<bool> {
-    let mut call = [0u8; 2160];
-    if read_full(input, &mut call)? < 2160 {
-        return Ok(false);
-    }
-    let mut out = [0u8; 880];
-    answer(&call, &mut out);
-    output.write_all(&out)?;
-    Ok(true)
-}
-
 fn main(rt: HostRuntime) -> io::Result<()> {
     let mut input = rt.reader();
     let mut output = io::writer(&rt);
-    for _ in 0..u64::MAX {
-        if !turn(&mut input, &mut output)? {
-            break;
-        }
-    }
-    Ok(())
+    answer_records::<2160, 880, _, _, _>(&mut input, &mut output, answer)
 }

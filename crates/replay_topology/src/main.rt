@@ -2,17 +2,15 @@
 // each an answer record of 3,168 bytes on standard output. oracle/README.md says what a record holds and how the records are made.
 #![tactic(auto)]
 
-ghost use Rattle.std.specs.Prelude.{◌≡◌, ◌≤◌, length};
+ghost use Rattle.std.specs.Prelude.{◌≡◌, ◌+◌, ◌≤◌, length};
 
 use hybit_matrix::both_sides::{BuildAnswer, DualStatsAnswer};
 use hybit_matrix::one_side::TopologyStatsAnswer;
 use hybit_matrix::{Answer, PairAnswer};
-use records::inner::{
-    bits, count_at, count_within, digit, number_at, put_list, put_narrow, put_number, read_list,
-    read_narrow, read_reals,
-};
-use std::io::{self, Read, Write};
-use streams::read_full;
+use records::inner::{count_at, digit, number_at, put_list, put_number, read_list};
+use std::io;
+use std::num::f64_to_bits_with_nan;
+use streams::answer_records;
 
 // Rows, columns and pairs of a side, as the record gives them.
 #[derive(Clone, Copy)]
@@ -22,23 +20,13 @@ struct Shape {
     pairs: usize,
 }
 
-fn first_shape(call: &[u8]) -> Shape
-    requires { length call.now ≡ 4648 }
+fn shape_at(call: &[u8], at: usize) -> Shape
+    requires { at + 24 ≤ length call.now }
 {
     Shape {
-        nrows: number_at(call, 8) as usize,
-        ncols: number_at(call, 16) as usize,
-        pairs: number_at(call, 24) as usize,
-    }
-}
-
-fn second_shape(call: &[u8]) -> Shape
-    requires { length call.now ≡ 4648 }
-{
-    Shape {
-        nrows: number_at(call, 32) as usize,
-        ncols: number_at(call, 40) as usize,
-        pairs: number_at(call, 48) as usize,
+        nrows: number_at(call, at) as usize,
+        ncols: number_at(call, at + 8) as usize,
+        pairs: number_at(call, at + 16) as usize,
     }
 }
 
@@ -80,9 +68,9 @@ fn put_built(out: &mut [u8], a: BuildAnswer)
 fn put_ratios(out: &mut [u8], average: f64, fill: f64, bytes: f64)
     requires { length out.old ≡ 3168 }
 {
-    put_number(out, 72, bits(average));
-    put_number(out, 80, bits(fill));
-    put_number(out, 88, bits(bytes));
+    put_number(out, 72, f64_to_bits_with_nan(average));
+    put_number(out, 80, f64_to_bits_with_nan(fill));
+    put_number(out, 88, f64_to_bits_with_nan(bytes));
 }
 
 fn put_stats(out: &mut [u8], a: TopologyStatsAnswer)
@@ -112,15 +100,15 @@ fn put_dual_stats(out: &mut [u8], a: DualStatsAnswer)
     put_number(out, 56, a.row_metadata_bytes);
     put_number(out, 64, a.column_metadata_bytes);
     put_number(out, 72, a.total_metadata_bytes);
-    put_number(out, 80, bits(a.metadata_bytes_per_nnz));
+    put_number(out, 80, f64_to_bits_with_nan(a.metadata_bytes_per_nnz));
 }
 
 // The first three lists that a call may write.
 fn put_side(out: &mut [u8], ptr: &[u32], words: &[u32], masks: &[u64])
     requires { (length out.old ≡ 3168) × (length ptr.now ≤ 16) × (length words.now ≤ 16) × (length masks.now ≤ 16) }
 {
-    put_narrow(out, 96, ptr);
-    put_narrow(out, 224, words);
+    put_list(out, 96, ptr);
+    put_list(out, 224, words);
     put_list(out, 352, masks);
 }
 
@@ -128,16 +116,16 @@ fn put_side(out: &mut [u8], ptr: &[u32], words: &[u32], masks: &[u64])
 fn put_columns(out: &mut [u8], ptr: &[u32], words: &[u32], masks: &[u64])
     requires { (length out.old ≡ 3168) × (length ptr.now ≤ 144) × (length words.now ≤ 16) × (length masks.now ≤ 16) }
 {
-    put_narrow(out, 480, ptr);
-    put_narrow(out, 1632, words);
+    put_list(out, 480, ptr);
+    put_list(out, 1632, words);
     put_list(out, 1760, masks);
 }
 
 fn put_scratch(out: &mut [u8], starts: &[u32], order: &[u32])
     requires { (length out.old ≡ 3168) × (length starts.now ≤ 144) × (length order.now ≤ 16) }
 {
-    put_narrow(out, 1888, starts);
-    put_narrow(out, 3040, order);
+    put_list(out, 1888, starts);
+    put_list(out, 3040, order);
 }
 
 // ---- one side
@@ -145,7 +133,7 @@ fn put_scratch(out: &mut [u8], starts: &[u32], order: &[u32])
 fn side_call(code: u8, ptr: &[u32], words: &[u32], masks: &[u64], call: &[u8], out: &mut [u8])
     requires { (length call.now ≡ 4648) × (length out.old ≡ 3168) }
 {
-    let a = first_shape(call);
+    let a = shape_at(call, 8);
     match code {
         1 => put_answer(
             out,
@@ -176,7 +164,7 @@ fn build_rows(
 )
     requires { (length call.now ≡ 4648) × (length out.old ≡ 3168) × (length ptr.old ≤ 16) × (length words.old ≤ 16) × (length masks.old ≤ 16) }
 {
-    let a = first_shape(call);
+    let a = shape_at(call, 8);
     let answer = hybit_matrix::one_side::hybit_topology_from_csr32(
         a.nrows, a.ncols, row_ptr, col_idx, values, ptr, words, masks,
     );
@@ -201,7 +189,7 @@ fn build_both(
 )
     requires { (length call.now ≡ 4648) × (length out.old ≡ 3168) × (length ptr.old ≤ 16) × (length words.old ≤ 16) × (length masks.old ≤ 16) × (length column_ptr.old ≤ 144) × (length column_words.old ≤ 16) × (length column_masks.old ≤ 16) × (length starts.old ≤ 144) × (length order.old ≤ 16) }
 {
-    let a = first_shape(call);
+    let a = shape_at(call, 8);
     let answer = hybit_matrix::both_sides::hybit_dual_topology_from_csr32(
         a.nrows,
         a.ncols,
@@ -236,21 +224,21 @@ fn columns_too(
 )
     requires { (length call.now ≡ 4648) × (length out.old ≡ 3168) × (length ptr.old ≤ 16) × (length words.old ≤ 16) × (length masks.old ≤ 16) }
 {
-    let n7 = count_within(call, 128, 144);
-    let n8 = count_at(call, 136);
-    let n9 = count_at(call, 144);
-    let n10 = count_within(call, 152, 144);
-    let n11 = count_at(call, 160);
+    let n7 = count_at(call, 128, 144);
+    let n8 = count_at(call, 136, 16);
+    let n9 = count_at(call, 144, 16);
+    let n10 = count_at(call, 152, 144);
+    let n11 = count_at(call, 160, 16);
     let mut column_ptr = [0u32; 144];
-    read_narrow(call, 1960, &mut column_ptr);
+    read_list(call, 1960, &mut column_ptr);
     let mut column_words = [0u32; 16];
-    read_narrow(call, 3112, &mut column_words);
+    read_list(call, 3112, &mut column_words);
     let mut column_masks = [0u64; 16];
     read_list(call, 3240, &mut column_masks);
     let mut starts = [0u32; 144];
-    read_narrow(call, 3368, &mut starts);
+    read_list(call, 3368, &mut starts);
     let mut order = [0u32; 16];
-    read_narrow(call, 4520, &mut order);
+    read_list(call, 4520, &mut order);
     build_both(
         row_ptr,
         col_idx,
@@ -279,13 +267,13 @@ fn matrix_call(
 )
     requires { (length call.now ≡ 4648) × (length out.old ≡ 3168) }
 {
-    let n4 = count_at(call, 104);
-    let n5 = count_at(call, 112);
-    let n6 = count_at(call, 120);
+    let n4 = count_at(call, 104, 16);
+    let n5 = count_at(call, 112, 16);
+    let n6 = count_at(call, 120, 16);
     let mut ptr = [0u32; 16];
-    read_narrow(call, 552, &mut ptr);
+    read_list(call, 552, &mut ptr);
     let mut words = [0u32; 16];
-    read_narrow(call, 1704, &mut words);
+    read_list(call, 1704, &mut words);
     let mut masks = [0u64; 16];
     read_list(call, 1832, &mut masks);
     match code {
@@ -315,15 +303,15 @@ fn matrix_call(
 fn matrix(code: u8, call: &[u8], out: &mut [u8])
     requires { (length call.now ≡ 4648) × (length out.old ≡ 3168) }
 {
-    let n1 = count_at(call, 80);
-    let n2 = count_at(call, 88);
-    let n3 = count_at(call, 96);
+    let n1 = count_at(call, 80, 16);
+    let n2 = count_at(call, 88, 16);
+    let n3 = count_at(call, 96, 16);
     let mut row_ptr = [0u32; 16];
-    read_narrow(call, 168, &mut row_ptr);
+    read_list(call, 168, &mut row_ptr);
     let mut col_idx = [0u32; 16];
-    read_narrow(call, 296, &mut col_idx);
+    read_list(call, 296, &mut col_idx);
     let mut values = [0.0; 16];
-    read_reals(call, 424, &mut values);
+    read_list(call, 424, &mut values);
     matrix_call(
         code,
         &row_ptr[0..n1],
@@ -386,8 +374,8 @@ fn run_set(
 )
     requires { (length call.now ≡ 4648) × (length out.old ≡ 3168) × (length ptr.old ≤ 16) × (length words.old ≤ 16) × (length masks.old ≤ 16) }
 {
-    let a = first_shape(call);
-    let b = second_shape(call);
+    let a = shape_at(call, 8);
+    let b = shape_at(call, 32);
     let answer = set_call(
         code, a, ptr_a, words_a, masks_a, b, ptr_b, words_b, masks_b, ptr, words, masks,
     );
@@ -409,13 +397,13 @@ fn set_operation(
 )
     requires { (length call.now ≡ 4648) × (length out.old ≡ 3168) }
 {
-    let n7 = count_at(call, 128);
-    let n8 = count_at(call, 136);
-    let n9 = count_at(call, 144);
+    let n7 = count_at(call, 128, 16);
+    let n8 = count_at(call, 136, 16);
+    let n9 = count_at(call, 144, 16);
     let mut ptr = [0u32; 16];
-    read_narrow(call, 1960, &mut ptr);
+    read_list(call, 1960, &mut ptr);
     let mut words = [0u32; 16];
-    read_narrow(call, 3112, &mut words);
+    read_list(call, 3112, &mut words);
     let mut masks = [0u64; 16];
     read_list(call, 3240, &mut masks);
     run_set(
@@ -487,8 +475,8 @@ fn topology_call(
 )
     requires { (length call.now ≡ 4648) × (length out.old ≡ 3168) }
 {
-    let a = first_shape(call);
-    let b = second_shape(call);
+    let a = shape_at(call, 8);
+    let b = shape_at(call, 32);
     let columns = number_at(call, 56) != 0;
     let number = number_at(call, 64);
     let k = number_at(call, 72);
@@ -526,13 +514,13 @@ fn topology_call(
 fn two_sides(code: u8, ptr_a: &[u32], words_a: &[u32], masks_a: &[u64], call: &[u8], out: &mut [u8])
     requires { (length call.now ≡ 4648) × (length out.old ≡ 3168) }
 {
-    let n4 = count_within(call, 104, 144);
-    let n5 = count_at(call, 112);
-    let n6 = count_at(call, 120);
+    let n4 = count_at(call, 104, 144);
+    let n5 = count_at(call, 112, 16);
+    let n6 = count_at(call, 120, 16);
     let mut ptr = [0u32; 144];
-    read_narrow(call, 552, &mut ptr);
+    read_list(call, 552, &mut ptr);
     let mut words = [0u32; 16];
-    read_narrow(call, 1704, &mut words);
+    read_list(call, 1704, &mut words);
     let mut masks = [0u64; 16];
     read_list(call, 1832, &mut masks);
     match code {
@@ -567,13 +555,13 @@ fn two_sides(code: u8, ptr_a: &[u32], words_a: &[u32], masks_a: &[u64], call: &[
 fn sides(code: u8, call: &[u8], out: &mut [u8])
     requires { (length call.now ≡ 4648) × (length out.old ≡ 3168) }
 {
-    let n1 = count_at(call, 80);
-    let n2 = count_at(call, 88);
-    let n3 = count_at(call, 96);
+    let n1 = count_at(call, 80, 16);
+    let n2 = count_at(call, 88, 16);
+    let n3 = count_at(call, 96, 16);
     let mut ptr = [0u32; 16];
-    read_narrow(call, 168, &mut ptr);
+    read_list(call, 168, &mut ptr);
     let mut words = [0u32; 16];
-    read_narrow(call, 296, &mut words);
+    read_list(call, 296, &mut words);
     let mut masks = [0u64; 16];
     read_list(call, 424, &mut masks);
     match code {
@@ -592,25 +580,8 @@ fn answer(call: &[u8], out: &mut [u8])
     }
 }
 
-// Whether there was a whole record to answer.
-fn turn<R: Read, W: Write>(input: &mut R, output: &mut W) -> io::Result<bool> {
-    let mut call = [0u8; 4648];
-    if read_full(input, &mut call)? < 4648 {
-        return Ok(false);
-    }
-    let mut out = [0u8; 3168];
-    answer(&call, &mut out);
-    output.write_all(&out)?;
-    Ok(true)
-}
-
 fn main(rt: HostRuntime) -> io::Result<()> {
     let mut input = rt.reader();
     let mut output = io::writer(&rt);
-    for _ in 0..u64::MAX {
-        if !turn(&mut input, &mut output)? {
-            break;
-        }
-    }
-    Ok(())
+    answer_records::<4648, 3168, _, _, _>(&mut input, &mut output, answer)
 }

@@ -1,5 +1,7 @@
 -- What the check of a side accepts: exactly the sides. Assumes nothing.
 use mathlib.Core.Path.{◌≡◌, refl, sym, ap, ◌∙◌, subst}
+use Rattle.std.specs.Prelude.{Ok}
+use Rattle.base.specs.declared.Refusal.TheVariants.{BadTopology}
 use mathlib.Core.Logic.{◌⊎◌, inl, inr}
 use mathlib.Core.Bool.{Bool, true, false, not, cond, ◌&&◌, ◌||◌}
 use mathlib.Core.List.{List}
@@ -9,11 +11,10 @@ use native.Mathlib.Nat.{le_refl}
 use borrow.Author.Tests.{leb-true, eqb-true, ltb-false, le-leb, lt-ltb, le-ltb, eq-eqb, ltb-true}
 use lib.Dec.{T, leb, eqb, ltb, lt→ltb, ltb→lt}
 use lib.ListN.{length, get_or}
-use Rattle.base.specs.Checks.{plain, must, ◌then◌, side_limit, entry_limit}
+use Rattle.base.specs.Checks.{must, ◌then◌, side_limit, entry_limit}
 use Rattle.base.specs.Lists.{rising}
 use Rattle.base.specs.Sets.{first_below}
-use Rattle.base.specs.declared.Checked.{Checked}
-use Rattle.base.proofs.Bools.{and_left, and_right, and_i, T_of, T_true, T_false, or-e, or_l, or_r, eq-or-ne, lt-or-le, T-not-zero, not-zero-T}
+use Rattle.base.proofs.Bools.{and_left, and_right, and_i, T_of, T_true, or-e, or_l, or_r, eq-or-ne, lt-or-le, T-not-zero, not-zero-T}
 use Rattle.base.proofs.Checks.{passed, both-passed, refused-not-accepted}
 use Rattle.base.proofs.Lists.{pairwise-at, pairwise-i, rise-to, step_of}
 use Rattle.base.proofs.Sets.{None, First, first-at, first-is, first-none}
@@ -24,34 +25,25 @@ use Rattle.side.specs.declared.BadWord.{BadWord}
 -- ---- faults
 
 -- only a side without fault is accepted
-pub sound-only : (f : Fault) → fault_check f ≡ Checked.Accepted → f ≡ Fault.Sound
+pub sound-only : (f : Fault) → fault_check f ≡ Ok tt → f ≡ Fault.Sound
 unfolding fault_check
 sound-only Fault.Sound e = refl
-sound-only Fault.Lists e = absurd (refused-not-accepted (plain 9) e)
-sound-only (Fault.Word w) e = absurd (refused-not-accepted (plain 9) e)
-sound-only Fault.Disagree e = absurd (refused-not-accepted (plain 9) e)
+sound-only Fault.Lists e = absurd (refused-not-accepted BadTopology e)
+sound-only (Fault.Word w) e = absurd (refused-not-accepted BadTopology e)
+sound-only Fault.Disagree e = absurd (refused-not-accepted BadTopology e)
 
-pub sound-accepted : (f : Fault) → f ≡ Fault.Sound → fault_check f ≡ Checked.Accepted
+pub sound-accepted : (f : Fault) → f ≡ Fault.Sound → fault_check f ≡ Ok tt
 unfolding fault_check
 sound-accepted f e = ap fault_check e
 
-code : Fault → ℕ
-code Fault.Sound = 0
-code Fault.Lists = 1
-code (Fault.Word w) = 2
-code Fault.Disagree = 3
-
 pub lists-not-sound : Fault.Lists ≡ Fault.Sound → ⊥
-unfolding code
-lists-not-sound e = let z : ◌≡◌ {A = ℕ} 1 0 = ap code e in omega arith
+lists-not-sound e = cc
 
 pub word-not-sound : (w : BadWord) → Fault.Word w ≡ Fault.Sound → ⊥
-unfolding code
-word-not-sound w e = let z : ◌≡◌ {A = ℕ} 2 0 = ap code e in omega arith
+word-not-sound w e = cc
 
 pub disagree-not-sound : Fault.Disagree ≡ Fault.Sound → ⊥
-unfolding code
-disagree-not-sound e = let z : ◌≡◌ {A = ℕ} 3 0 = ap code e in omega arith
+disagree-not-sound e = cc
 
 -- ---- the parts of an accepted chain
 
@@ -63,7 +55,7 @@ module _ (nrows ncols : ℕ) (idx masks : List ℕ) (pairs : ℕ) where
     pub few_words : length masks ≤ entry_limit
     pub few_pairs : pairs ≤ entry_limit
 
-  pub limits_passed : limit_check nrows ncols idx masks pairs ≡ Checked.Accepted → Within
+  pub limits_passed : limit_check nrows ncols idx masks pairs ≡ Ok tt → Within
   unfolding limit_check
   limits_passed e =
       let e1 = both-passed _ _ e in
@@ -78,13 +70,13 @@ module _ (nrows ncols : ℕ) (idx masks : List ℕ) (pairs : ℕ) where
         few_pairs = leb-true _ _ (passed _ _ e4.1);
       }
 
-  pub limits_pass : Within → limit_check nrows ncols idx masks pairs ≡ Checked.Accepted
+  pub limits_pass : Within → limit_check nrows ncols idx masks pairs ≡ Ok tt
   unfolding limit_check must ◌then◌
   limits_pass w =
       rw (le-leb _ _ w.few_rows, le-leb _ _ w.few_cols, le-leb _ _ w.few_indices, le-leb _ _ w.few_words, le-leb _ _ w.few_pairs) refl
 
 -- lists that are long enough
-pub room-passed : (rows words pointers indices masks : ℕ) → side_room rows words pointers indices masks ≡ Checked.Accepted → (rows < pointers) × (words ≤ indices) × (words ≤ masks)
+pub room-passed : (rows words pointers indices masks : ℕ) → side_room rows words pointers indices masks ≡ Ok tt → (rows < pointers) × (words ≤ indices) × (words ≤ masks)
 unfolding side_room
 room-passed rows words pointers indices masks e =
     let e1 = both-passed _ _ e in
@@ -125,10 +117,6 @@ module _ (nrows : ℕ) (ptr idx masks : List ℕ) (pairs : ℕ) where
         ends = eqb-true _ _ (and_right three (eqb (get_or ptr nrows 0) (length masks)) e4);
         rises = λ r h. leb-true _ _ (pairwise-at leb 0 ptr r (and_right four (rising ptr) e5) (omega arith));
       }
-
-  pub agree-rising : lists_agree nrows ptr idx masks pairs ≡ true → rising ptr ≡ true
-  unfolding lists_agree
-  agree-rising e = and_right four (rising ptr) (and_left five last e)
 
   pub agree-count : lists_agree nrows ptr idx masks pairs ≡ true → bits_in masks 0 (length masks) ≡ pairs
   unfolding lists_agree
@@ -267,15 +255,6 @@ rises-all idx from to h j k a b d = go (k - j) k (omega arith) b d
 -- ---- the whole check
 
 module _ (nrows ncols : ℕ) (ptr idx masks : List ℕ) (pairs : ℕ) where
-  -- what the check answers: lists that do not agree, or what the words say
-  pub fault-lists : (lists_agree nrows ptr idx masks pairs ≡ true → ⊥) → Fault.Lists ≡ side_fault nrows ncols ptr idx masks pairs
-  unfolding side_fault
-  fault-lists f = sym (ap (λ (b : Bool). cond b (words_fault nrows ncols ptr idx masks) Fault.Lists) (T_false (lists_agree nrows ptr idx masks pairs) (λ t. f (T_true (lists_agree nrows ptr idx masks pairs) t))))
-
-  pub fault-words : lists_agree nrows ptr idx masks pairs ≡ true → words_fault nrows ncols ptr idx masks ≡ side_fault nrows ncols ptr idx masks pairs
-  unfolding side_fault
-  fault-words e = sym (ap (λ (b : Bool). cond b (words_fault nrows ncols ptr idx masks) Fault.Lists) e)
-
   fault-parts : side_fault nrows ncols ptr idx masks pairs ≡ Fault.Sound → (lists_agree nrows ptr idx masks pairs ≡ true) × (words_fault nrows ncols ptr idx masks ≡ Fault.Sound)
   unfolding side_fault
   fault-parts e = go (lists_agree nrows ptr idx masks pairs) refl e
@@ -318,7 +297,7 @@ module _ (nrows ncols : ℕ) (ptr idx masks : List ℕ) (pairs : ℕ) where
           yes true f = refl
           yes false f = absurd (f tt)
 
-  pub accepted-side : ((k : ℕ) → get_or masks k 0 < 2 ^ 64) → side_check nrows ncols ptr idx masks pairs ≡ Checked.Accepted → IsSide nrows ncols ptr idx masks × (pairs ≡ bits_in masks 0 (length masks))
+  pub accepted-side : ((k : ℕ) → get_or masks k 0 < 2 ^ 64) → side_check nrows ncols ptr idx masks pairs ≡ Ok tt → IsSide nrows ncols ptr idx masks × (pairs ≡ bits_in masks 0 (length masks))
   unfolding side_check
   accepted-side fits e =
       let q = both-passed _ _ e in
@@ -339,7 +318,7 @@ module _ (nrows ncols : ℕ) (ptr idx masks : List ℕ) (pairs : ℕ) where
           good-word ncols idx masks (get_or ptr q.0 0) k (m.used k h) q.2 (λ l. m.rising q.0 q.1 (k - 1) k (omega arith) (omega arith) q.3) (m.inside k h) in
           subst (λ (x : Bool). T x) (bad-is nrows ncols ptr idx masks m.shape q.0 k q.1 q.2 q.3 ∙ ap not g) t
 
-  pub side-accepted : IsSide nrows ncols ptr idx masks → pairs ≡ bits_in masks 0 (length masks) → side_check nrows ncols ptr idx masks pairs ≡ Checked.Accepted
+  pub side-accepted : IsSide nrows ncols ptr idx masks → pairs ≡ bits_in masks 0 (length masks) → side_check nrows ncols ptr idx masks pairs ≡ Ok tt
   unfolding side_check ◌then◌
   side-accepted m e =
       rw (limits_pass nrows ncols idx masks pairs (record {

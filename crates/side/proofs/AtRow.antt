@@ -1,6 +1,7 @@
 -- One row of an accepted side. Assumes nothing.
 use mathlib.Core.Path.{◌≡◌, sym, ap, ap₂, ◌∙◌}
-use mathlib.Core.Bool.{Bool, false, cond, ◌&&◌}
+use Rattle.std.specs.Prelude.{Some, None}
+use mathlib.Core.Bool.{Bool, cond, ◌&&◌}
 use mathlib.Core.List.{List}
 use Prim.Native.Nat.{ℕ, ◌+◌, ◌-◌, ◌≤◌, ◌<◌}
 use native.Mathlib.Omega.{arith}
@@ -14,7 +15,6 @@ use Rattle.base.proofs.Lists.{get_or-slice}
 use Rattle.side.specs.Side.{words_of_row, masks_of_row, side_holds, word_at}
 use Rattle.side.specs.Check.{bits_in, IsSide}
 use Rattle.side.specs.Row.{IsRow, Inside}
-use Rattle.side.specs.declared.WordAt.{WordAt}
 use Rattle.side.proofs.Rows.{row_words, row_masks, row_count}
 use Rattle.side.proofs.Sides.{end-le, end-in, own, held-col}
 
@@ -59,22 +59,19 @@ module _ (nrows ncols : ℕ) (ptr idx masks : List ℕ) (m : IsSide nrows ncols 
   at_count = row_count set ncols idx masks lo hi (own nrows ncols ptr idx masks m r h) at_up at_words at-masks (λ c t. held-col nrows ncols ptr idx masks m r c h t)
 
   -- word k, and past the last
-  pub at-word : (k : ℕ) → k < hi - lo → WordAt.Word (record { word_index = get_or idx (lo + k) 0; mask = get_or masks (lo + k) 0 }) ≡ word_at ncols set k
+  pub at-word : (k : ℕ) → k < hi - lo → Some (record { word_index = get_or idx (lo + k) 0; mask = get_or masks (lo + k) 0 }) ≡ word_at ncols set k
   unfolding word_at
   at-word k u =
-      ap₂ (λ (x y : ℕ). WordAt.Word (record { word_index = x; mask = y }))
+      ap₂ (λ (x y : ℕ). Some (record { word_index = x; mask = y }))
       (sym (get_or-slice lo hi idx k (omega arith)) ∙ ap (λ (l : List ℕ). get_or l k 0) words_are)
       (sym (get_or-slice lo hi masks k (omega arith)) ∙ ap (λ (l : List ℕ). get_or l k 0) masks-are)
-      ∙ sym (ap (λ (b : Bool). cond b (WordAt.Word (record { word_index = get_or (words_of_row ncols set) k 0; mask = get_or (masks_of_row ncols set) k 0 })) WordAt.Nothing) (lt-ltb k (length (words_of_row ncols set)) (omega (arith, at_length))))
+      ∙ sym (ap (λ (b : Bool). cond b (Some (record { word_index = get_or (words_of_row ncols set) k 0; mask = get_or (masks_of_row ncols set) k 0 })) None) (lt-ltb k (length (words_of_row ncols set)) (omega (arith, at_length))))
 
-  pub at_none : (k : ℕ) → hi - lo ≤ k → WordAt.Nothing ≡ word_at ncols set k
+  pub at_none : (k : ℕ) → hi - lo ≤ k → None ≡ word_at ncols set k
   unfolding word_at
   at_none k u =
-      sym (ap (λ (b : Bool). cond b (WordAt.Word (record { word_index = get_or (words_of_row ncols set) k 0; mask = get_or (masks_of_row ncols set) k 0 })) WordAt.Nothing) (le-ltb k (length (words_of_row ncols set)) (omega (arith, at_length))))
+      sym (ap (λ (b : Bool). cond b (Some (record { word_index = get_or (words_of_row ncols set) k 0; mask = get_or (masks_of_row ncols set) k 0 })) None) (le-ltb k (length (words_of_row ncols set)) (omega (arith, at_length))))
 
--- a column, and one past the end
+-- a column
 pub in_row : (col ncols : ℕ) (b : Bool) → col < ncols → b ≡ (ltb col ncols && b)
 in_row col ncols b h = sym (ap (λ (t : Bool). t && b) (lt-ltb col ncols h))
-
-pub past_row : (col ncols : ℕ) (b : Bool) → ncols ≤ col → false ≡ (ltb col ncols && b)
-past_row col ncols b h = sym (ap (λ (t : Bool). t && b) (le-ltb col ncols h))

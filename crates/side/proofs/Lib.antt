@@ -4,5 +4,6 @@ pub mod Sides
 pub mod Accepted
 pub mod Searches
 pub mod Words
+pub mod Writing
 pub mod Ranks
 pub mod AtRow

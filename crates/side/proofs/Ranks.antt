@@ -1,5 +1,6 @@
 -- Counts of a row's columns below a bound, by its words: rank and select. Assumes nothing.
 use mathlib.Core.Path.{◌≡◌, refl, sym, ap, ap₂, ◌∙◌, subst}
+use Rattle.std.specs.Prelude.{Some, None}
 use mathlib.Core.Logic.{◌≢◌}
 use mathlib.Core.Bool.{Bool, true, false, ◌&&◌}
 use mathlib.Core.List.{List}
@@ -16,29 +17,20 @@ use Rattle.base.proofs.Bools.{and_l, and_r}
 use Rattle.base.proofs.Sets.{sum-append, count-cong, count-members, members-at, count-member, get_or-count, count-get_or}
 use Rattle.word.specs.Bits.{bit_at, set_bits}
 use Rattle.word.specs.Answers.{entry, select_answer}
-use Rattle.word.specs.declared.Selected.{Selected}
 use Rattle.word.proofs.Bits.{one_shl, rank-count}
 use Rattle.word.proofs.Words.{bit_word, word-ext}
 use Rattle.word.proofs.Answers.{entry_in, entry_past}
 use Rattle.side.specs.Check.{bits_in}
-use Rattle.side.specs.Row.{Row}
+use Rattle.side.specs.Row.{Lower, Row}
 use Rattle.side.proofs.Rows.{row_count}
-use Rattle.side.proofs.Searches.{Lower}
 
 -- what a word's `select` answers
-module _ (m left off : ℕ) (l : left < count_below 64 (bit_at m)) (s : select_answer m left ≡ Selected.At off) where
+module _ (m left off : ℕ) (l : left < count_below 64 (bit_at m)) (s : select_answer m left ≡ Some off) where
   short : left < length (set_bits m)
   short = omega (arith, count-members 64 (bit_at m))
 
   off-is : get_or (set_bits m) left 0 ≡ off
-  off-is = told (get_or (set_bits m) left 0) off (sym (entry_in (set_bits m) left short) ∙ s)
-    where
-      number : Selected → ℕ
-      number (Selected.At n) = n
-      number Selected.Nothing = 0
-
-      told : (a b : ℕ) → Selected.At a ≡ Selected.At b → a ≡ b
-      told a b e = ap number e
+  off-is = cc (entry_in (set_bits m) left short)
 
   pub off_small : off < 64
   off_small = omega (arith, (members-at (bit_at m) 0 64 left short).1, off-is)
@@ -50,15 +42,8 @@ module _ (m left off : ℕ) (l : left < count_below 64 (bit_at m)) (s : select_a
   off-rank = ap (λ (n : ℕ). count_below n (bit_at m)) (sym off-is) ∙ count-get_or 64 (bit_at m) left short
 
 -- it has a bit with an ordinal below its count
-pub select_has : (m left : ℕ) → left < count_below 64 (bit_at m) → select_answer m left ≡ Selected.Nothing → ⊥
-select_has m left l s = apart (get_or (set_bits m) left 0) (sym (entry_in (set_bits m) left (omega (arith, count-members 64 (bit_at m)))) ∙ s)
-  where
-    tag : Selected → ℕ
-    tag (Selected.At n) = 0
-    tag Selected.Nothing = 1
-
-    apart : (a : ℕ) → Selected.At a ≡ Selected.Nothing → ⊥
-    apart a e = let z : ◌≡◌ {A = ℕ} 0 1 = ap tag e in omega arith
+pub select_has : (m left : ℕ) → left < count_below 64 (bit_at m) → select_answer m left ≡ None → ⊥
+select_has m left l s = cc (entry_in (set_bits m) left (omega (arith, count-members 64 (bit_at m))))
 
 module _ (p : ℕ → Bool) (idx masks : List ℕ) (from to : ℕ) (row : Row p idx masks from to) (hi : to ≤ length idx) (hm : to ≤ length masks) where
   -- words that lie below b, and words that start at or past it
@@ -127,9 +112,9 @@ module _ (p : ℕ → Bool) (idx masks : List ℕ) (from to : ℕ) (row : Row p 
 
   -- `select`: the column is in the word at k
   pub select_in : (ncols ordinal left k off : ℕ) → ((c : ℕ) → T (p c) → c < ncols) → from ≤ k → k < to → ordinal ≡ bits_in masks from k + left → left < count_below 64 (bit_at (get_or masks k 0))
-      → select_answer (get_or masks k 0) left ≡ Selected.At off → Selected.At (get_or idx k 0 * 64 + off) ≡ entry (members_below ncols p) ordinal
+      → select_answer (get_or masks k 0) left ≡ Some off → Some (get_or idx k 0 * 64 + off) ≡ entry (members_below ncols p) ordinal
   select_in ncols ordinal left k off small h u e l s =
-      ap Selected.At (num ∙ sym (get_or-count ncols p c (small c held) held) ∙ ap (λ (n : ℕ). get_or (members_below ncols p) n 0) rank)
+      ap Some (num ∙ sym (get_or-count ncols p c (small c held) held) ∙ ap (λ (n : ℕ). get_or (members_below ncols p) n 0) rank)
       ∙ sym (entry_in (members_below ncols p) ordinal in_list)
     where
       m : ℕ
@@ -152,6 +137,6 @@ module _ (p : ℕ → Bool) (idx masks : List ℕ) (from to : ℕ) (row : Row p 
       in_list : ordinal < length (members_below ncols p)
       in_list = omega (arith, count-members ncols p, sym rank, count-member ncols p c (small c held) held)
 
-  pub select-past : (ncols ordinal left : ℕ) → from ≤ to → ((c : ℕ) → T (p c) → c < ncols) → ordinal ≡ bits_in masks from to + left → Selected.Nothing ≡ entry (members_below ncols p) ordinal
+  pub select-past : (ncols ordinal left : ℕ) → from ≤ to → ((c : ℕ) → T (p c) → c < ncols) → ordinal ≡ bits_in masks from to + left → None ≡ entry (members_below ncols p) ordinal
   select-past ncols ordinal left h small e =
       sym (entry_past (members_below ncols p) ordinal (omega (arith, count-members ncols p, row_count p ncols idx masks from to row h hi hm small)))

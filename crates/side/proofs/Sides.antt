@@ -5,8 +5,9 @@ use mathlib.Core.Bool.{Bool, true, false, not, ◌||◌}
 use mathlib.Core.List.{List, ◌++◌}
 use Prim.Native.Nat.{ℕ, zero, suc, ◌+◌, ◌-◌, ◌*◌, ◌/◌, ◌%◌, ◌^◌, ◌≤◌, ◌<◌}
 use native.Mathlib.Omega.{arith}
-use native.Mathlib.Nat.{le_refl, zero-add}
+use native.Mathlib.Nat.{le_refl, zero-add, add-zero, add_assoc}
 use native.Mathlib.Numerals.{add-one}
+use lib.Count.{ones, ones-le}
 use lib.Dec.{T, ltb, lt→ltb, not_T}
 use lib.ListN.{length, get_or, take, length-map, get_or-eq_default}
 use lib.Seq.{slice, take-length, length-take-le, ext_get_or, drop-nil}
@@ -17,7 +18,7 @@ use Rattle.base.proofs.Lists.{take_on, length-list_from, get_or-list_from, rise-
 use Rattle.base.proofs.Joins.{join-none, join-next, join-slice, join_up, join-length, join-count}
 use Rattle.base.proofs.Sets.{every-i, sum-zero, sum-suc, sum-append, sum-cong, sum-most, sum-le, count-le, sum-swap}
 use Rattle.word.specs.Bits.{bit_at, word_of}
-use Rattle.word.proofs.Bits.{zero_bit}
+use Rattle.word.proofs.Bits.{zero_bit, ones-count}
 use Rattle.word.proofs.Words.{word_lt, bit_word}
 use Rattle.side.specs.Side.{words_of_row, masks_of_row, side_words, side_masks, side_ptr, pair_count, mask_for, row_holds, side_holds, flip}
 use Rattle.side.specs.Check.{bits_in, is_word_inside, IsRows, IsSide}
@@ -52,9 +53,20 @@ bits-next masks from i h =
     f : ℕ → ℕ
     f = λ j. count_below 64 (bit_at (get_or masks (from + j) 0))
 
+-- one mask more, by its length
+pub bits-more : (masks : List ℕ) (from i : ℕ) → get_or masks (from + i) 0 < 2 ^ 64 → bits_in masks from (from + (i + 1)) ≡ bits_in masks from (from + i) + ones (get_or masks (from + i) 0)
+bits-more masks from i h =
+    ap (bits_in masks from) (sym (add_assoc from i 1)) ∙ bits-next masks from (from + i) (omega arith)
+    ∙ ap (λ (x : ℕ). bits_in masks from (from + i) + x) (sym (ones-count 64 (get_or masks (from + i) 0) h))
+
+pub bits-start : (masks : List ℕ) (from : ℕ) → bits_in masks from (from + 0) ≡ 0
+bits-start masks from = ap (bits_in masks from) (add-zero from) ∙ bits_none masks from
+
 pub bits-le : (masks : List ℕ) (from to : ℕ) → bits_in masks from to ≤ 64 * (to - from)
 unfolding bits_in
 bits-le masks from to = sum-most (to - from) 64 (λ j. count_below 64 (bit_at (get_or masks (from + j) 0))) (λ j h. count-le 64 (bit_at (get_or masks (from + j) 0)))
+
+pub ruleset counting = (bits-start, bits-more, bits-le, ones-le)
 
 -- ---- rows one after the other: row r of s stands between ends r and ends (r + 1)
 

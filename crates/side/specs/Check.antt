@@ -1,28 +1,30 @@
 -- The check of one side: refusal 1, then what `AbtmTopology::validate` asks for, refusal 9. The faults are told apart, in the order lengths,
 -- pointers and pair count, then words; `fault_check` gives the number of each.
 use Rattle.std.specs.Prelude.{◌≡◌, Bool, true, not, cond, ◌&&◌, ◌||◌, List, ℕ, ◌+◌, ◌-◌, ◌*◌, ◌^◌, ◌≤◌, ◌<◌, eqb, leb, ltb, length, get_or}
-use Rattle.base.specs.Checks.{plain, must, ◌then◌, side_limit, entry_limit}
+use Rattle.std.specs.Prelude.{Ok, Err}
+use Rattle.base.specs.Checks.{Check}
+use Rattle.base.specs.declared.Refusal.TheVariants.{OverLimit, BadTopology, ListTooShort}
+use Rattle.base.specs.Checks.{must, ◌then◌, side_limit, entry_limit}
 use Rattle.base.specs.Lists.{rising}
 use Rattle.base.specs.Sets.{first_below, every_below, sum_below, count_below}
-use Rattle.base.specs.declared.Checked.{Checked}
 use Rattle.word.specs.Bits.{bit_at}
 use Rattle.side.specs.declared.Fault.{Fault}
 
 -- the limits of refusal 1
-unfoldable pub limit_check : ℕ → ℕ → List ℕ → List ℕ → ℕ → Checked
+unfoldable pub limit_check : ℕ → ℕ → List ℕ → List ℕ → ℕ → Check
 limit_check nrows ncols idx masks pairs =
-    must (leb nrows side_limit) 1
-    then must (leb ncols side_limit) 1
-    then must (leb (length idx) entry_limit) 1
-    then must (leb (length masks) entry_limit) 1
-    then must (leb pairs entry_limit) 1
+    must (leb nrows side_limit) OverLimit
+    then must (leb ncols side_limit) OverLimit
+    then must (leb (length idx) entry_limit) OverLimit
+    then must (leb (length masks) entry_limit) OverLimit
+    then must (leb pairs entry_limit) OverLimit
 
 -- the number of each fault
-unfoldable pub fault_check : Fault → Checked
-fault_check Fault.Sound = Checked.Accepted
-fault_check Fault.Lists = Checked.Refused (plain 9)
-fault_check (Fault.Word w) = Checked.Refused (plain 9)
-fault_check Fault.Disagree = Checked.Refused (plain 9)
+unfoldable pub fault_check : Fault → Check
+fault_check Fault.Sound = (Ok tt)
+fault_check Fault.Lists = Err BadTopology
+fault_check (Fault.Word w) = Err BadTopology
+fault_check Fault.Disagree = Err BadTopology
 
 -- the set bits of the masks from..to
 unfoldable pub bits_in : List ℕ → ℕ → ℕ → ℕ
@@ -66,12 +68,12 @@ unfoldable pub side_fault : ℕ → ℕ → List ℕ → List ℕ → List ℕ �
 side_fault nrows ncols ptr idx masks pairs = cond (lists_agree nrows ptr idx masks pairs) (words_fault nrows ncols ptr idx masks) Fault.Lists
 
 -- a side: 1, 9
-unfoldable pub side_check : ℕ → ℕ → List ℕ → List ℕ → List ℕ → ℕ → Checked
+unfoldable pub side_check : ℕ → ℕ → List ℕ → List ℕ → List ℕ → ℕ → Check
 side_check nrows ncols ptr idx masks pairs = limit_check nrows ncols idx masks pairs then fault_check (side_fault nrows ncols ptr idx masks pairs)
 
 -- 25: what the lists of a side of `rows` rows and at most `words` words need, against the lengths that they have
-unfoldable pub side_room : ℕ → ℕ → ℕ → ℕ → ℕ → Checked
-side_room rows words pointers indices masks = must (ltb rows pointers) 25 then must (leb words indices) 25 then must (leb words masks) 25
+unfoldable pub side_room : ℕ → ℕ → ℕ → ℕ → ℕ → Check
+side_room rows words pointers indices masks = must (ltb rows pointers) ListTooShort then must (leb words indices) ListTooShort then must (leb words masks) ListTooShort
 
 -- ---- what an accepted side is
 

@@ -1,13 +1,14 @@
 -- One side of a topology is a set of pairs (row, column). For each row it stores the words that hold at least one of its columns, in rising
 -- order, each with its mask. The columns side is the same of the pairs flipped.
 use Rattle.std.specs.Prelude.{Bool, not, cond, List, [], ◌∷◌, map, ℕ, ◌+◌, ◌/◌, ◌%◌, eqb, ltb, length, get_or}
+use Rattle.std.specs.Prelude.{Option, Some, None}
 use Rattle.std.proofs.Math.Seq.{slice}
 use Rattle.base.specs.Lists.{join_below, list_from}
 use Rattle.base.specs.Sets.{sum_below, count_below, members_below}
 use Rattle.word.specs.Bits.{bit_at, word_of}
 use Rattle.mask.specs.Mask.{words_needed}
 use Rattle.side.specs.declared.SideCounts.{SideCounts}
-use Rattle.side.specs.declared.WordAt.{WordAt}
+use Rattle.word.specs.declared.AbtmTopologyWord.{AbtmTopologyWord}
 
 -- the pairs turned round
 abbrev pub flip : (ℕ → ℕ → Bool) → ℕ → ℕ → Bool
@@ -59,6 +60,6 @@ abbrev pub side_holds : List ℕ → List ℕ → List ℕ → ℕ → ℕ → B
 side_holds ptr idx masks r c = row_holds idx masks (get_or ptr r 0) (get_or ptr (r + 1) 0) c
 
 -- word k of a row with the columns p, or none
-unfoldable pub word_at : ℕ → (ℕ → Bool) → ℕ → WordAt
+unfoldable pub word_at : ℕ → (ℕ → Bool) → ℕ → Option AbtmTopologyWord
 word_at ncols p k =
-    cond (ltb k (length (words_of_row ncols p))) (WordAt.Word (record { word_index = get_or (words_of_row ncols p) k 0; mask = get_or (masks_of_row ncols p) k 0 })) WordAt.Nothing
+    cond (ltb k (length (words_of_row ncols p))) (Some (record { word_index = get_or (words_of_row ncols p) k 0; mask = get_or (masks_of_row ncols p) k 0 })) None

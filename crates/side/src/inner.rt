@@ -5,72 +5,73 @@ ghost use Rattle.base.specs.Sets.{first_below, count_below, members_below};
 ghost use Rattle.word.specs.Answers.{entry};
 ghost use Rattle.side.specs.Side.{words_of_row, row_holds, side_holds, word_at};
 ghost use Rattle.side.specs.Check.{limit_check, side_room, bits_in, is_word_inside, good_word, words_fault, side_fault, Rising, IsRows, IsSide};
-ghost use Rattle.side.specs.Row.{lower_in, IsRow, Inside};
+ghost use Rattle.side.specs.Row.{Lower, IsRow, Inside};
 
-use crate::{BadWord, Fault, WordAt};
-use base::Checked;
-use word::{AbtmTopologyWord, Selected};
+use crate::{BadWord, Fault};
+use base::Refusal;
+use word::AbtmTopologyWord;
 
 // Refusal 1 of one side.
+#[tactic(auto, using(base::proofs::Checks::checks), unfolding(crate::specs::Check::limit_check))]
 pub fn check_limits(
     nrows: usize,
     ncols: usize,
     word_indices: &[u32],
     masks: &[u64],
     structural_nnz: usize,
-) -> Checked
+) -> Result<(), Refusal>
     ensures { result ≡ limit_check nrows ncols word_indices.now masks.now structural_nnz }
 {
     if nrows > base::SIDE_LIMIT {
-        return base::refused(1);
+        return Err(Refusal::OverLimit);
     }
     if ncols > base::SIDE_LIMIT {
-        return base::refused(1);
+        return Err(Refusal::OverLimit);
     }
     if word_indices.len() > base::ENTRY_LIMIT {
-        return base::refused(1);
+        return Err(Refusal::OverLimit);
     }
     if masks.len() > base::ENTRY_LIMIT {
-        return base::refused(1);
+        return Err(Refusal::OverLimit);
     }
     if structural_nnz > base::ENTRY_LIMIT {
-        return base::refused(1);
+        return Err(Refusal::OverLimit);
     }
-    Checked::Accepted
+    Ok(())
 }
 
 // Refusal 25 of a side that is written.
+#[tactic(auto, using(base::proofs::Checks::checks), unfolding(crate::specs::Check::side_room))]
 pub fn check_room(
     rows: usize,
     words: usize,
     pointers: usize,
     indices: usize,
     masks: usize,
-) -> Checked
+) -> Result<(), Refusal>
     ensures { result ≡ side_room rows words pointers indices masks }
 {
     if rows >= pointers {
-        return base::refused(25);
+        return Err(Refusal::ListTooShort);
     }
     if words > indices {
-        return base::refused(25);
+        return Err(Refusal::ListTooShort);
     }
     if words > masks {
-        return base::refused(25);
+        return Err(Refusal::ListTooShort);
     }
-    Checked::Accepted
+    Ok(())
 }
 
 // The set bits of the masks from..to.
+#[tactic(auto, using(crate::proofs::Sides::counting))]
 pub fn count_bits(masks: &[u64], from: usize, to: usize) -> usize
     requires { (from ≤ to) × (to ≤ length masks.now) × (to - from ≤ entry_limit) }
     ensures { result ≡ bits_in masks.now from to }
 {
     let mut sum: usize = 0;
-    let mut i = from;
-    while i < to {
-        sum += u64::count_ones(masks[i]) as usize;
-        i += 1;
+    for mask in &masks[from..to] {
+        sum += mask.count_ones() as usize;
     }
     sum
 }
@@ -96,8 +97,7 @@ pub fn first_bad(ncols: usize, word_indices: &[u32], masks: &[u64], from: usize,
     requires { (ncols ≤ side_limit) × (from ≤ to) × (to ≤ length word_indices.now) × (to ≤ length masks.now) }
     ensures { result ≡ from + first_below (to - from) (λ j. not (good_word ncols word_indices.now masks.now from (from + j))) }
 {
-    let mut k = from;
-    while k < to {
+    for k in from..to {
         let word = word_indices[k];
         let mask = masks[k];
         if mask == 0 {
@@ -111,7 +111,6 @@ pub fn first_bad(ncols: usize, word_indices: &[u32], masks: &[u64], from: usize,
         if !word_inside(ncols, word, mask) {
             return k;
         }
-        k += 1;
     }
     to
 }
@@ -127,8 +126,7 @@ pub fn check_words(
     requires { IsRows nrows row_word_ptr.now word_indices.now masks.now × (ncols ≤ side_limit) }
     ensures { result ≡ words_fault nrows ncols row_word_ptr.now word_indices.now masks.now }
 {
-    let mut r: usize = 0;
-    while r < nrows {
+    for r in 0..nrows {
         let from = row_word_ptr[r] as usize;
         let to = row_word_ptr[r + 1] as usize;
         let k = first_bad(ncols, word_indices, masks, from, to);
@@ -138,12 +136,12 @@ pub fn check_words(
                 position: k as u64,
             });
         }
-        r += 1;
     }
     Fault::Sound
 }
 
 // The first fault of one side within the limits.
+#[tactic(auto, unfolding(crate::specs::Check::side_fault, crate::specs::Check::lists_agree))]
 pub fn fault(
     nrows: usize,
     ncols: usize,
@@ -164,7 +162,7 @@ pub fn fault(
     if row_word_ptr[0] != 0 {
         return Fault::Lists;
     }
-    if base::wide(row_word_ptr[nrows]) != masks.len() {
+    if row_word_ptr[nrows] as usize != masks.len() {
         return Fault::Lists;
     }
     if !base::scan::never_falls(row_word_ptr) {
@@ -179,7 +177,7 @@ pub fn fault(
 // The first place at or after `from`, and before `to`, whose word is at least `word`, or `to`.
 pub fn lower(word_indices: &[u32], from: usize, to: usize, word: u32) -> usize
     requires { (from ≤ to) × (to ≤ length word_indices.now) × Rising word_indices.now from to }
-    ensures { result ≡ lower_in word_indices.now from to word }
+    ensures { Lower word_indices.now from to word result }
 {
     let mut lo = from;
     let mut hi = to;
@@ -234,25 +232,21 @@ pub fn select(
     from: usize,
     to: usize,
     ordinal: u64,
-) -> Selected
+) -> Option<usize>
     requires { (from ≤ to) × (to ≤ length word_indices.now) × (to ≤ length masks.now) × IsRow word_indices.now masks.now from to × Inside ncols word_indices.now masks.now from to }
     ensures { result ≡ entry (members_below ncols (row_holds word_indices.now masks.now from to)) ordinal }
 {
     let mut left = ordinal;
-    let mut k = from;
-    while k < to {
+    for k in from..to {
         let word = AbtmTopologyWord::new(word_indices[k], masks[k]);
         let count = word.popcount() as u64;
         if left < count {
-            return match word.select(left as usize) {
-                Selected::At(offset) => Selected::At(word.base_col() + offset),
-                Selected::Nothing => Selected::Nothing,
-            };
+            let offset = word.select(left as usize)?;
+            return Some(word.base_col() + offset);
         }
         left -= count;
-        k += 1;
     }
-    Selected::Nothing
+    None
 }
 
 // Row `number` of a checked side: how many words it has.
@@ -337,7 +331,7 @@ pub fn row_select(
     masks: &[u64],
     number: usize,
     ordinal: u64,
-) -> Selected
+) -> Option<usize>
     requires { IsSide nrows ncols row_word_ptr.now word_indices.now masks.now × (number < nrows) }
     ensures { result ≡ entry (members_below ncols (side_holds row_word_ptr.now word_indices.now masks.now number)) ordinal }
 {
@@ -355,15 +349,15 @@ pub fn row_word(
     masks: &[u64],
     number: usize,
     k: u64,
-) -> WordAt
+) -> Option<AbtmTopologyWord>
     requires { IsSide nrows ncols row_word_ptr.now word_indices.now masks.now × (number < nrows) }
     ensures { result ≡ word_at ncols (side_holds row_word_ptr.now word_indices.now masks.now number) k }
 {
     let from = row_word_ptr[number] as usize;
     let to = row_word_ptr[number + 1] as usize;
     if k >= (to - from) as u64 {
-        return WordAt::Nothing;
+        return None;
     }
     let at = from + k as usize;
-    WordAt::Word(AbtmTopologyWord::new(word_indices[at], masks[at]))
+    Some(AbtmTopologyWord::new(word_indices[at], masks[at]))
 }

@@ -5,7 +5,7 @@
 ghost use Rattle.std.specs.Prelude.{◌≡◌};
 ghost use Rattle.side.specs.Check.{fault_check};
 
-use base::Checked;
+use base::Refusal;
 use word::AbtmTopologyWord;
 
 pub mod inner;
@@ -24,13 +24,6 @@ pub struct SideCounts {
     pub pairs: u64,
 }
 
-// A word of a row, or none.
-#[derive(Clone, Copy)]
-pub enum WordAt {
-    Word(AbtmTopologyWord),
-    Nothing,
-}
-
 // The first fault of a side or of two: lengths, pointers or pair count of a side; a word; sides that disagree.
 #[derive(Clone, Copy)]
 pub enum Fault {
@@ -41,14 +34,15 @@ pub enum Fault {
 }
 
 impl Fault {
-    pub fn check(self) -> Checked
+    #[tactic(auto, unfolding(crate::specs::Check::fault_check))]
+    pub fn check(self) -> Result<(), Refusal>
         ensures { result ≡ fault_check self }
     {
         match self {
-            Fault::Sound => Checked::Accepted,
-            Fault::Lists => base::refused(9),
-            Fault::Word(_) => base::refused(9),
-            Fault::Disagree => base::refused(9),
+            Fault::Sound => Ok(()),
+            Fault::Lists => Err(Refusal::BadTopology),
+            Fault::Word(_) => Err(Refusal::BadTopology),
+            Fault::Disagree => Err(Refusal::BadTopology),
         }
     }
 }

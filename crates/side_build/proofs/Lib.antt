@@ -1,4 +1,4 @@
-pub mod Gaps
+pub mod Puts
 pub mod Adding
 pub mod Building
 pub mod Sides

@@ -1,5 +1,5 @@
 -- The merge of two rows, a word a turn. Assumes nothing.
-use mathlib.Core.Path.{◌≡◌, refl, ap₂, ◌∙◌}
+use mathlib.Core.Path.{◌≡◌, ap₂, ◌∙◌}
 use mathlib.Core.Logic.{◌⊎◌, inl, inr, ◌≢◌}
 use mathlib.Core.Bool.{Bool, true, false}
 use mathlib.Core.List.{List}
@@ -7,30 +7,17 @@ use Prim.Native.Nat.{ℕ, ◌+◌, ◌-◌, ◌*◌, ◌≤◌, ◌<◌}
 use native.Mathlib.Omega.{arith}
 use native.Mathlib.Nat.{le_refl}
 use lib.Dec.{T}
-use lib.ListN.{length, get_or, set, length-set}
-use lib.Seq.{take-set-le, drop-set-lt}
+use lib.ListN.{length, get_or, set}
 use Rattle.base.proofs.Bools.{not-T-of}
 use Rattle.word.specs.Bits.{bit_at, word_from, word_of}
 use Rattle.word.proofs.Words.{on-words}
 use Rattle.side.specs.Side.{row_holds}
-use Rattle.side.specs.Row.{Row}
-use Rattle.side.proofs.Searches.{Lower}
+use Rattle.side.specs.Row.{Lower, Row, Kept, NewRow}
+use Rattle.side.proofs.Writing.{kept-none, kept_set, kept_next}
 use Rattle.side_sets.specs.declared.inner.Taken.{Taken}
-use Rattle.side_sets.specs.Merge.{OwnRow, Next, taken_at, Kept, Merged}
+use Rattle.side_sets.specs.Merge.{OwnRow, Next, taken_at}
 use Rattle.side_sets.proofs.Growing.{up_to, row-none, row-whole, row-skip, row_put}
 use Rattle.side_sets.proofs.Taking.{Took, none_left, no-between, took}
-
--- ---- what is kept
-
-pub kept-none : (from limit : ℕ) (l : List ℕ) → Kept from limit l l
-kept-none from limit l = record { long = refl; front = refl; past = refl }
-
-pub kept_set : (from limit : ℕ) (l₀ l : List ℕ) (i v : ℕ) → from ≤ i → i < limit → Kept from limit l₀ l → Kept from limit l₀ (set l i v)
-kept_set from limit l₀ l i v h u k = record {
-  long = length-set l i v ∙ k.long;
-  front = take-set-le from l i v h ∙ k.front;
-  past = drop-set-lt limit l i v u ∙ k.past;
-}
 
 -- ---- the columns of two sets under f
 
@@ -47,8 +34,8 @@ pub record Merging (f : Bool → Bool → Bool) (left left-masks : List ℕ) (a�
   pub row : Row (up_to (λ c. f (row_holds left left-masks a₀ a₁ c) (row_holds right right-masks b₀ b₁ c)) bound) idx masks from to
   pub low : from ≤ to
   pub room : to ≤ from + (a - a₀) + (b - b₀)
-  pub words_kept : Kept from (from + (a₁ - a₀) + (b₁ - b₀)) idx₀ idx
-  pub masks_kept : Kept from (from + (a₁ - a₀) + (b₁ - b₀)) masks₀ masks
+  pub words_kept : Kept idx₀ idx from to
+  pub masks_kept : Kept masks₀ masks from to
 
 -- where a merge starts
 lower-start : (l : List ℕ) (from to : ℕ) → from ≤ to → Lower l from to 0 from
@@ -63,19 +50,19 @@ module _ (f : Bool → Bool → Bool) {left left-masks : List ℕ} {a₀ a₁ : 
     row = row-none (λ c. f (row_holds left left-masks a₀ a₁ c) (row_holds right right-masks b₀ b₁ c)) idx masks from;
     low = le_refl from;
     room = omega arith;
-    words_kept = kept-none from (from + (a₁ - a₀) + (b₁ - b₀)) idx;
-    masks_kept = kept-none from (from + (a₁ - a₀) + (b₁ - b₀)) masks;
+    words_kept = kept-none idx from from;
+    masks_kept = kept-none masks from from;
   }
 
   -- no word is left in either
   pub merge-end : f false false ≡ false → {from : ℕ} {idx₀ masks₀ idx masks : List ℕ} {a b to : ℕ}
       → Merging f left left-masks a₀ a₁ right right-masks b₀ b₁ from idx₀ masks₀ idx masks a b to → a₁ + b₁ ≤ a + b
-      → Merged (λ c. f (row_holds left left-masks a₀ a₁ c) (row_holds right right-masks b₀ b₁ c)) from (from + (a₁ - a₀) + (b₁ - b₀)) to idx₀ masks₀ idx masks
+      → NewRow (λ c. f (row_holds left left-masks a₀ a₁ c) (row_holds right right-masks b₀ b₁ c)) idx₀ masks₀ idx masks from to (from + (a₁ - a₀) + (b₁ - b₀))
   merge-end off {from} {idx₀} {masks₀} {idx} {masks} {a} {b} {to} m h = record {
     low = m.low;
     high = omega (arith, m.room, m.in_left.high, m.in_right.high);
     row = row-whole (λ c. f (row_holds left left-masks a₀ a₁ c) (row_holds right right-masks b₀ b₁ c)) m.bound m.row done;
-    words_kept = m.words_kept;
+    idx_kept = m.words_kept;
     masks_kept = m.masks_kept;
   }
     where
@@ -172,6 +159,6 @@ module _ {f : Bool → Bool → Bool} {left left-masks : List ℕ} {a₀ a₁ : 
     row = row_put (λ c. f (A c) (B c)) m.bound m.row v x from-bound gap result-is m.low (omega (arith, in-room, m.words_kept.long)) (omega (arith, in-room, m.masks_kept.long)) n;
     low = omega (arith, m.low);
     room = omega (arith, m.room, goes_on, m.in_left.low, m.in_right.low, took-left.least, took-right.least);
-    words_kept = kept_set from limit idx₀ idx to v m.low in-room m.words_kept;
-    masks_kept = kept_set from limit masks₀ masks to x m.low in-room m.masks_kept;
+    words_kept = kept_next (omega arith) (omega arith) m.words_kept (kept_set idx from (to + 1) to v m.low (omega arith));
+    masks_kept = kept_next (omega arith) (omega arith) m.masks_kept (kept_set masks from (to + 1) to x m.low (omega arith));
   }

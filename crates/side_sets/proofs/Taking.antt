@@ -12,8 +12,7 @@ use borrow.Author.Tests.{lt-ltb, le-ltb, eq-eqb, ne_eqb}
 use Rattle.base.proofs.Bools.{lt-or-le, eq-or-ne}
 use Rattle.word.specs.Bits.{word_of}
 use Rattle.word.proofs.Words.{word_none}
-use Rattle.side.specs.Row.{Row}
-use Rattle.side.proofs.Searches.{Lower}
+use Rattle.side.specs.Row.{Lower, Row}
 use Rattle.side_sets.specs.declared.inner.Taken.{Taken}
 use Rattle.side_sets.specs.Merge.{taken_at}
 

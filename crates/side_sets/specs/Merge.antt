@@ -1,5 +1,5 @@
 -- What the steps of a merge of two rows hand on to one another; no caller needs it.
-use Rattle.std.specs.Prelude.{◌≡◌, ◌⊎◌, Bool, cond, ◌&&◌, List, ℕ, ◌+◌, ◌≤◌, ◌<◌, eqb, ltb, length, get_or, take, drop}
+use Rattle.std.specs.Prelude.{◌≡◌, ◌⊎◌, cond, ◌&&◌, List, ℕ, ◌+◌, ◌≤◌, ◌<◌, eqb, ltb, length, get_or}
 use Rattle.side.specs.Side.{row_holds}
 use Rattle.side.specs.Row.{Row}
 use Rattle.side_sets.specs.declared.inner.Taken.{Taken}
@@ -20,17 +20,3 @@ pub record Next (left : List ℕ) (a a' : ℕ) (right : List ℕ) (b b' word : �
 -- where the word stands at k, before `to`: its mask, and the place after k; where it does not: 0 and k
 unfoldable pub taken_at : List ℕ → List ℕ → ℕ → ℕ → ℕ → Taken
 taken_at idx masks k to word = cond (ltb k to && eqb (get_or idx k 0) word) (record { mask = get_or masks k 0; next = k + 1 }) (record { mask = 0; next = k })
-
--- a list as long, and the same before `from` and from `limit` on
-pub record Kept (from limit : ℕ) (l l' : List ℕ) : Type 0 where
-  pub long : length l' ≡ length l
-  pub front : take from l' ≡ take from l
-  pub past : drop limit l' ≡ drop limit l
-
--- the words of the columns p are written at from..to, and nothing is changed outside from..limit
-pub record Merged (p : ℕ → Bool) (from limit to : ℕ) (idx masks idx' masks' : List ℕ) : Type 0 where
-  pub low : from ≤ to
-  pub high : to ≤ limit
-  pub row : Row p idx' masks' from to
-  pub words_kept : Kept from limit idx idx'
-  pub masks_kept : Kept from limit masks masks'

@@ -4,8 +4,9 @@ ghost use Rattle.base.specs.Lists.{over, over_with_zeros};
 ghost use Rattle.word.specs.Answers.{on};
 ghost use Rattle.side.specs.Side.{side_ptr, side_words, side_masks, side_counts, row_holds, side_holds};
 ghost use Rattle.side.specs.Check.{IsSide};
+ghost use Rattle.side.specs.Row.{NewRow};
 ghost use Rattle.side_sets.specs.Sets.{pairwise_pairs};
-ghost use Rattle.side_sets.specs.Merge.{OwnRow, Next, taken_at, Merged};
+ghost use Rattle.side_sets.specs.Merge.{OwnRow, Next, taken_at};
 
 use side::SideCounts;
 use word::Operation;
@@ -44,6 +45,7 @@ fn next_word(
 }
 
 // What the row whose words stand at k.., before `end`, has for a word.
+#[tactic(auto, unfolding(crate::specs::Merge::taken_at))]
 fn take(words: &[u32], masks: &[u64], k: usize, end: usize, word: u32) -> Taken
     requires { (end ≤ length words.now) × (end ≤ length masks.now) }
     ensures { result ≡ taken_at words.now masks.now k end word }
@@ -76,7 +78,7 @@ fn combine_row(
     masks: &mut [u64],
 ) -> usize
     requires { OwnRow words_a.now masks_a.now a_from a_end × OwnRow words_b.now masks_b.now b_from b_end × (from + (a_end - a_from) + (b_end - b_from) ≤ length word_indices.old) × (from + (a_end - a_from) + (b_end - b_from) ≤ length masks.old) }
-    ensures { Merged (λ c. on op (row_holds words_a.now masks_a.now a_from a_end c) (row_holds words_b.now masks_b.now b_from b_end c)) from (from + (a_end - a_from) + (b_end - b_from)) result word_indices.old masks.old word_indices.new masks.new }
+    ensures { NewRow (λ c. on op (row_holds words_a.now masks_a.now a_from a_end c) (row_holds words_b.now masks_b.now b_from b_end c)) word_indices.old masks.old word_indices.new masks.new from result (from + (a_end - a_from) + (b_end - b_from)) }
 {
     let mut a = a_from;
     let mut b = b_from;
@@ -120,37 +122,30 @@ pub fn combine(
     ensures masked { masks.new ≡ over_with_zeros (side_masks nrows ncols (pairwise_pairs (on op) (side_holds ptr_a.now words_a.now masks_a.now) (side_holds ptr_b.now words_b.now masks_b.now))) (length masks_a.now + length masks_b.now) masks.old }
 {
     row_word_ptr[0] = 0;
-    let mut row: usize = 0;
     let mut to: usize = 0;
     let mut pairs: u64 = 0;
-    while row < nrows {
-        let next = row + 1;
-        let a = base::wide(ptr_a[row]);
-        let a_end = base::wide(ptr_a[next]);
-        let b = base::wide(ptr_b[row]);
-        let b_end = base::wide(ptr_b[next]);
+    for row in 0..nrows {
         let end = combine_row(
             words_a,
             masks_a,
-            a,
-            a_end,
+            ptr_a[row] as usize,
+            ptr_a[row + 1] as usize,
             words_b,
             masks_b,
-            b,
-            b_end,
+            ptr_b[row] as usize,
+            ptr_b[row + 1] as usize,
             op,
             to,
             word_indices,
             masks,
         );
         pairs += side::inner::count_bits(masks, to, end) as u64;
-        row_word_ptr[next] = end as u32;
+        row_word_ptr[row + 1] = end as u32;
         to = end;
-        row = next;
     }
     let needed = masks_a.len() + masks_b.len();
-    base::inner::zero(word_indices, to, needed);
-    base::inner::zero_wide(masks, to, needed);
+    word_indices[to..needed].fill(0);
+    masks[to..needed].fill(0);
     SideCounts {
         words: to as u64,
         pairs,

@@ -16,6 +16,7 @@ use Rattle.base.proofs.Lists.{same-list, list_same}
 use Rattle.text_writing.specs.Text.{comma, newline, digit, digits_of, decimal, further, numbers, line}
 use Rattle.text_writing.proofs.Digits.{digits-one, digits_more, digits-some, decimal-one, decimal-more, decimal-some}
 use Rattle.text_reading.specs.Reading.{is_digit, value_from, leading_zero, is_number, number_of, before, behind, on_first, parts, fields, is_list, list_of, is_line, value_of}
+use Rattle.text_reading.proofs.Numbers.{value-append}
 use Rattle.text_reading.proofs.Fields.{fields-some}
 
 -- ---- digits
@@ -38,11 +39,6 @@ digits-all (suc k) n = go (lt-or-le n 10) (digits-all k (n / 10))
     go : (n < 10) ⊎ (10 ≤ n) → every is_digit (digits_of k (n / 10)) ≡ true → every is_digit (digits_of (suc k) n) ≡ true
     go (inl a) ih = ap (every is_digit) (digits-one k n a) ∙ one n a
     go (inr a) ih = ap (every is_digit) (digits_more k n a) ∙ every_append is_digit (digits_of k (n / 10)) (digit (n % 10) ∷ []) ih (one (n % 10) (omega arith))
-
-value-append : (v : ℕ) (a b : List ℕ) → value_from v (a ++ b) ≡ value_from (value_from v a) b
-unfolding value_from
-value-append v [] b = refl
-value-append v (d ∷ a) b = value-append (10 * v + (d - 48)) a b
 
 -- the value of the digits is the number
 digits_value : (k n : ℕ) → n < 10 ^ k → value_from 0 (digits_of k n) ≡ n

@@ -1,20 +1,33 @@
 -- Laws of lines: where the value of the first line stands, whether it has its key and a newline, and where the next line starts. Assumes nothing.
-use mathlib.Core.Path.{◌≡◌, sym, ap, ◌∙◌}
+use mathlib.Core.Path.{◌≡◌, refl, sym, ap, ap₂, ◌∙◌}
 use mathlib.Core.Bool.{Bool, true, false, ◌&&◌}
-use mathlib.Core.List.{List}
+use mathlib.Core.List.{List, [], ◌∷◌}
 use mathlib.Core.Logic.{◌⊎◌, inl, inr}
 use Prim.Native.Nat.{ℕ, suc, ◌+◌, ◌-◌, ◌≤◌, ◌<◌, min}
 use native.Mathlib.Numerals.{add-one}
 use native.Mathlib.Omega.{arith}
 use borrow.Author.Tests.{lt-ltb, le-ltb}
-use lib.Dec.{ltb}
+use lib.Dec.{ltb, eqb}
 use lib.ListN.{length, take, drop, drop_of_length-le}
+use Rattle.std.specs.List.{starts_with}
+use Rattle.std.specs.Cmp.Lexicographic.{pointwise}
 use Rattle.base.specs.Lists.{is_in, same_list}
-use Rattle.base.proofs.Bools.{lt-or-le}
+use Rattle.base.proofs.Bools.{lt-or-le, eqb_swap}
 use Rattle.base.proofs.Lists.{part_slice}
 use Rattle.text_writing.specs.Text.{newline}
 use Rattle.text_reading.specs.Reading.{before, behind, is_line, value_of}
 use Rattle.text_reading.proofs.Parts.{before-within, take-before, behind-drop, in-before}
+
+-- the library's word for a text that begins with the key
+pub same_start : (t key : List ℕ) → starts_with eqb t key ≡ same_list (take (length key) t) key
+unfolding same_list
+same_start t key = same key (take (length key) t)
+  where
+    same : (xs ys : List ℕ) → pointwise eqb xs ys ≡ same_list ys xs
+    same [] [] = refl
+    same [] (y ∷ ys) = refl
+    same (x ∷ xs) [] = refl
+    same (x ∷ xs) (y ∷ ys) = ap₂ ◌&&◌ (eqb_swap x y) (same xs ys)
 
 -- the newline stands at `to`, or there is none and the text ends there
 module _ (key t : List ℕ) (to : ℕ) (e : to ≡ length (before newline t)) where

@@ -1,15 +1,15 @@
 -- Laws of numbers: their digits one after the other, and what a number is once its first digit was looked at. Assumes nothing.
 use mathlib.Core.Path.{◌≡◌, refl, sym, ap, ap₂, ◌∙◌}
 use mathlib.Core.Bool.{Bool, true, false, cond, not, ◌&&◌}
-use mathlib.Core.List.{List, [], ◌∷◌}
+use mathlib.Core.List.{List, [], ◌∷◌, ◌++◌}
 use Prim.Native.Nat.{ℕ, ◌+◌, ◌-◌, ◌*◌, ◌≤◌, ◌<◌}
 use native.Mathlib.Nat.{le_refl, not-suc-le-zero}
 use native.Mathlib.Numerals.{add-one}
 use native.Mathlib.Omega.{arith}
-use borrow.Author.Tests.{eq-eqb, ne_eqb, lt-ltb, le-ltb, le-leb, lt-leb, leb-true}
+use borrow.Author.Tests.{eq-eqb, ne_eqb, lt-ltb, le-ltb, leb-true}
 use lib.Dec.{eqb, ltb, leb}
-use lib.ListN.{length, get_or, drop, drop_of_length-le}
-use lib.Seq.{drop-cons}
+use lib.ListN.{length, get_or, take, drop, take-append-drop}
+use lib.Seq.{take-suc}
 use Rattle.base.specs.Lists.{every}
 use Rattle.base.proofs.Bools.{and_right}
 use Rattle.text_reading.specs.Reading.{is_digit, value_from, leading_zero, is_number, number_of}
@@ -21,23 +21,18 @@ unfolding value_from
 value_grows v [] = le_refl v
 value_grows v (d ∷ ds) = omega (arith, value_grows (10 * v + (d - 48)) ds)
 
-module _ (s : List ℕ) (v i : ℕ) where
-  pub value-step : i < length s → value_from 0 s ≡ value_from v (drop i s) → value_from 0 s ≡ value_from (10 * v + (get_or s i 0 - 48)) (drop (i + 1) s)
-  unfolding value_from
-  value-step h e = e ∙ ap (value_from v) (drop-cons s i 0 h) ∙ ap (λ (k : ℕ). value_from (10 * v + (get_or s i 0 - 48)) (drop k s)) (sym (add-one i))
+pub value-append : (v : ℕ) (a b : List ℕ) → value_from v (a ++ b) ≡ value_from (value_from v a) b
+unfolding value_from
+value-append v [] b = refl
+value-append v (d ∷ a) b = value-append (10 * v + (d - 48)) a b
 
-  pub value-end : length s ≤ i → value_from 0 s ≡ value_from v (drop i s) → value_from 0 s ≡ v
-  unfolding value_from
-  value-end h e = e ∙ ap (value_from v) (drop_of_length-le s h)
+-- with one digit more, and of the first of them
+pub value-more : (v : ℕ) (s : List ℕ) (i : ℕ) → i < length s → value_from v (take (i + 1) s) ≡ 10 * value_from v (take i s) + (get_or s i 0 - 48)
+unfolding value_from
+value-more v s i h = ap (value_from v) (ap (λ (k : ℕ). take k s) (add-one i) ∙ take-suc s i 0 h) ∙ value-append v (take i s) (get_or s i 0 ∷ [])
 
-pub digit-is : (b : ℕ) → 48 ≤ b → b ≤ 57 → is_digit b ≡ true
-digit-is b l u = ap₂ ◌&&◌ (le-leb 48 b l) (le-leb b 57 u)
-
-pub digit_low : (b : ℕ) → b < 48 → is_digit b ≡ false
-digit_low b h = ap (λ (t : Bool). t && leb b 57) (lt-leb 48 b h)
-
-pub digit-high : (b : ℕ) → 57 < b → is_digit b ≡ false
-digit-high b h = ap₂ ◌&&◌ (le-leb 48 b (omega arith)) (lt-leb b 57 h)
+pub value-front : (v : ℕ) (s : List ℕ) (n : ℕ) → value_from v (take n s) ≤ value_from v s
+value-front v s n = omega (arith, value_grows (value_from v (take n s)) (drop n s), value-append v (take n s) (drop n s), ap (value_from v) (take-append-drop n s))
 
 -- ---- the first digit
 

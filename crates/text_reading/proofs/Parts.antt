@@ -1,46 +1,32 @@
 -- Laws of the parts between bytes c: a search from the front, where the first part ends, and the parts one after the other. Assumes nothing.
 use mathlib.Core.Path.{◌≡◌, refl, sym, ap, ap₂, ◌∙◌}
-use mathlib.Core.Bool.{Bool, true, false, cond, ◌||◌}
+use mathlib.Core.Bool.{Bool, true, false, cond, not, ◌||◌}
 use mathlib.Core.List.{List, [], ◌∷◌}
 use Prim.Native.Nat.{ℕ, suc, ◌+◌, ◌≤◌, ◌<◌}
-use native.Mathlib.Numerals.{add-one}
 use native.Mathlib.Omega.{arith}
-use borrow.Author.Tests.{eq-eqb, ne_eqb, lt-ltb, le-ltb, le-leb, lt-leb}
+use borrow.Author.Tests.{lt-ltb, le-ltb, le-leb, lt-leb}
 use mathlib.Core.Logic.{◌⊎◌, inl, inr}
 use lib.Dec.{eqb, ltb, leb, leb-suc-suc}
-use lib.ListN.{length, get_or, take, drop, length-drop, drop_of_length-le}
-use lib.Seq.{drop-cons, drop-drop}
+use lib.ListN.{length, take, drop, length-drop}
+use lib.Seq.{drop-drop}
+use Rattle.std.specs.List.{position_or_len}
 use Rattle.base.specs.Lists.{is_in}
 use Rattle.base.proofs.Bools.{lt-or-le}
 use Rattle.text_reading.specs.Reading.{before, behind, on_first, parts}
 
--- ---- a search for c from the front
-
-module _ (c : ℕ) (t : List ℕ) (i : ℕ) where
-  pub find-step : i < length t → (get_or t i 0 ≡ c → ⊥) → length (before c t) ≡ i + length (before c (drop i t)) → length (before c t) ≡ i + 1 + length (before c (drop (i + 1) t))
-  unfolding before
-  find-step h n e =
-      let s : length (before c (drop i t)) ≡ suc (length (before c (drop (suc i) t))) =
-      ap (λ (l : List ℕ). length (before c l)) (drop-cons t i 0 h)
-      ∙ ap (λ (b : Bool). length (cond b [] (get_or t i 0 ∷ before c (drop (suc i) t)))) (ne_eqb (get_or t i 0) c n) in
-      let a : i + suc (length (before c (drop (suc i) t))) ≡ i + 1 + length (before c (drop (suc i) t)) = omega arith in
-      e ∙ ap (λ (k : ℕ). i + k) s ∙ a ∙ ap (λ (k : ℕ). i + 1 + length (before c (drop k t))) (sym (add-one i))
-
-  pub find-stop : i < length t → get_or t i 0 ≡ c → length (before c t) ≡ i + length (before c (drop i t)) → i ≡ length (before c t)
-  unfolding before
-  find-stop h q e =
-      let s : length (before c (drop i t)) ≡ 0 =
-      ap (λ (l : List ℕ). length (before c l)) (drop-cons t i 0 h)
-      ∙ ap (λ (b : Bool). length (cond b [] (get_or t i 0 ∷ before c (drop (suc i) t)))) (eq-eqb (get_or t i 0) c q) in
-      omega arith
-
-  pub find-end : length t ≤ i → length (before c t) ≡ i + length (before c (drop i t)) → i ≡ length (before c t)
-  unfolding before
-  find-end h e = let s : length (before c (drop i t)) ≡ 0 = ap (λ (l : List ℕ). length (before c l)) (drop_of_length-le t h) in omega arith
-
 -- ---- the first part, and what is behind it
 
 module _ (c : ℕ) where
+  -- the first c stands behind it
+  pub length-before : (t : List ℕ) → length (before c t) ≡ position_or_len (λ b. eqb b c) t
+  unfolding before
+  length-before [] = refl
+  length-before (b ∷ t) = go (eqb b c) (length-before t)
+    where
+      go : (e : Bool) → length (before c t) ≡ position_or_len (λ b. eqb b c) t → length (cond e [] (b ∷ before c t)) ≡ cond (not e) (1 + position_or_len (λ b. eqb b c) t) 0
+      go true ih = refl
+      go false ih = omega (arith, ih)
+
   pub before-within : (t : List ℕ) → length (before c t) ≤ length t
   unfolding before
   before-within [] = omega arith

@@ -4,7 +4,7 @@ use mathlib.Core.Bool.{Bool, cond}
 use mathlib.Core.List.{List, [], ◌∷◌, ◌++◌}
 use mathlib.Core.Logic.{◌⊎◌, inl, inr}
 use Prim.Native.Nat.{ℕ, zero, suc, ◌+◌, ◌*◌, ◌/◌, ◌%◌, ◌^◌, ◌≤◌, ◌<◌}
-use native.Mathlib.Nat.{pow-suc, not-suc-le-zero}
+use native.Mathlib.Nat.{pow-suc, one-le-pow, not-suc-le-zero}
 use native.Mathlib.Omega.{arith}
 use borrow.Author.Tests.{lt-ltb, le-ltb}
 use lib.ListN.{length, length-append}
@@ -69,3 +69,12 @@ decimal-some n = digits-some 19 n
 
 pub length_more : (n : ℕ) → 10 ≤ n → n < 10 ^ 20 → length (decimal n) ≡ length (decimal (n / 10)) + 1
 length_more n h u = ap length (decimal-more n h u) ∙ length-append (decimal (n / 10)) (digit (n % 10) ∷ [])
+
+-- by the largest power of ten that is no larger; 0 has one digit too
+pub length-decimal : (k n : ℕ) → (0 < k → 10 ^ k ≤ n) → n < 10 * 10 ^ k → n < 10 ^ 20 → length (decimal n) ≡ k + 1
+length-decimal zero n lo hi u = ap length (decimal-one n hi)
+length-decimal (suc k) n lo hi u =
+    let p : 10 ^ suc k ≡ 10 ^ k * 10 = pow-suc 10 k in
+    let q : 1 ≤ 10 ^ k = one-le-pow k 10 (omega arith) in
+    let l : 10 ^ suc k ≤ n = lo (omega arith) in
+    omega (arith, length_more n (omega arith) u, length-decimal k (n / 10) (λ z. omega arith) (omega arith) (omega arith))

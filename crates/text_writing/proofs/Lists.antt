@@ -1,18 +1,24 @@
 -- A list of numbers as text, with one number more; a line; a byte put before what stands already. Assumes nothing.
 use mathlib.Core.Path.{◌≡◌, refl, sym, ap, ap₂, ◌∙◌}
 use mathlib.Core.List.{List, [], ◌∷◌, ◌++◌, append_assoc, append-nil}
-use Prim.Native.Nat.{ℕ, zero, suc, ◌+◌, ◌*◌, ◌≤◌, ◌<◌}
-use native.Mathlib.Nat.{not-suc-le-zero}
+use Prim.Native.Nat.{ℕ, zero, suc, ◌+◌, ◌-◌, ◌*◌, ◌≤◌, ◌<◌}
 use native.Mathlib.Numerals.{add-one}
 use native.Mathlib.Omega.{arith}
 use lib.ListN.{length, get_or, set, take, drop, length-append}
 use lib.Seq.{take-suc, set_at, length-take-le}
+use Rattle.std.specs.List.{sum_by}
+use Rattle.std.proofs.lemmas.List.Sums.{sum_by-cons}
 use Rattle.base.specs.Lists.{placed}
 use Rattle.base.proofs.Lists.{placed-more, placed-next}
 use Rattle.text_writing.specs.Text.{comma, newline, decimal, further, numbers, line}
 use Rattle.text_writing.proofs.Digits.{decimal-most}
 
 -- ---- a list
+
+pub numbers-none : (xs : List ℕ) → length xs ≡ 0 → numbers xs ≡ []
+unfolding numbers
+numbers-none [] h = refl
+numbers-none (x ∷ xs) h = absurd (omega arith)
 
 -- a number behind others
 further-last : (xs : List ℕ) (x : ℕ) → further (xs ++ (x ∷ [])) ≡ further xs ++ (comma ∷ decimal x)
@@ -21,25 +27,20 @@ further-last [] x = ap (λ (t : List ℕ). comma ∷ t) (append-nil (decimal x))
 further-last (y ∷ ys) x =
     ap (λ (t : List ℕ). comma ∷ t) (ap (λ (t : List ℕ). decimal y ++ t) (further-last ys x) ∙ sym (append_assoc (decimal y) (further ys) (comma ∷ decimal x)))
 
-numbers-last : (xs : List ℕ) (x : ℕ) → 0 < length xs → numbers (xs ++ (x ∷ [])) ≡ numbers xs ++ (comma ∷ decimal x)
-unfolding numbers
-numbers-last [] x h = absurd (not-suc-le-zero h)
-numbers-last (y ∷ ys) x h = ap (λ (t : List ℕ). decimal y ++ t) (further-last ys x) ∙ sym (append_assoc (decimal y) (further ys) (comma ∷ decimal x))
+-- the first number of a list, and number k behind it with its comma
+module _ (xs : List ℕ) (x : ℕ) (r : List ℕ) (e : xs ≡ x ∷ r) where
+  pub numbers-first : numbers (take (0 + 1) xs) ≡ decimal x
+  unfolding numbers further
+  numbers-first = ap (λ (l : List ℕ). numbers (take 1 l)) e ∙ append-nil (decimal x)
 
-pub numbers-none : [] ≡ numbers []
-unfolding numbers
-numbers-none = refl
-
--- the first number of a list, and each other with its comma
-pub numbers-first : (xs : List ℕ) → 0 < length xs → numbers (take 1 xs) ≡ decimal (get_or xs 0 0)
-unfolding numbers further
-numbers-first [] h = absurd (not-suc-le-zero h)
-numbers-first (x ∷ xs) h = append-nil (decimal x)
-
-pub numbers-next : (xs : List ℕ) (k : ℕ) → 0 < k → k < length xs → numbers (take (k + 1) xs) ≡ numbers (take k xs) ++ (comma ∷ decimal (get_or xs k 0))
-numbers-next xs k z h =
-    ap (λ (n : ℕ). numbers (take n xs)) (add-one k) ∙ ap numbers (take-suc xs k 0 h)
-    ∙ numbers-last (take k xs) (get_or xs k 0) (omega (arith, length-take-le k xs (omega arith)))
+  pub numbers-next : (k : ℕ) → k < length r → numbers (take (k + 1 + 1) xs) ≡ numbers (take (k + 1) xs) ++ (comma ∷ decimal (get_or r k 0))
+  unfolding numbers
+  numbers-next k h =
+      ap₂ (λ (n : ℕ) (l : List ℕ). numbers (take n l)) (add-one (k + 1)) e
+      ∙ ap (λ (t : List ℕ). decimal x ++ further t) (ap (λ (n : ℕ). take n r) (add-one k) ∙ take-suc r k 0 h)
+      ∙ ap (λ (t : List ℕ). decimal x ++ t) (further-last (take k r) (get_or r k 0))
+      ∙ sym (append_assoc (decimal x) (further (take k r)) (comma ∷ decimal (get_or r k 0)))
+      ∙ ap (λ (t : List ℕ). t ++ (comma ∷ decimal (get_or r k 0))) (sym (ap₂ (λ (n : ℕ) (l : List ℕ). numbers (take n l)) (add-one k) e))
 
 -- ---- a byte before what stands from the next place on
 
@@ -53,11 +54,17 @@ placed-ahead at X l v h =
     ∙ set_at (take at l) (get_or l at 0) (X ++ drop (at + 1 + length X) l) v at long
     ∙ ap (λ (k : ℕ). take at l ++ (v ∷ (X ++ drop k l))) e
 
--- ---- lengths
+-- and a byte between two parts
+pub placed-between : (at : ℕ) (X Y l : List ℕ) (v : ℕ) → at + length (X ++ (v ∷ Y)) ≤ length l
+    → placed (at + length X + 1) Y (set (placed at X l) (at + length X) v) ≡ placed at (X ++ (v ∷ Y)) l
+placed-between at X Y l v h =
+    let n : length (X ++ (v ∷ Y)) ≡ length X + suc (length Y) = length-append X (v ∷ Y) in
+    let here : at + length X + 1 ≡ at + length (X ++ (v ∷ [])) = omega (arith, length-append X (v ∷ [])) in
+    ap₂ (λ (i : ℕ) (b : List ℕ). placed i Y b) here (placed-next at X l v 0 (omega arith))
+    ∙ placed-more at (X ++ (v ∷ [])) Y l (omega (arith, length-append X (v ∷ [])))
+    ∙ ap (λ (t : List ℕ). placed at t l) (append_assoc X (v ∷ []) Y)
 
--- with number k and its comma
-pub length-next : (xs : List ℕ) (k : ℕ) → 0 < k → k < length xs → length (numbers (take (k + 1) xs)) ≡ length (numbers (take k xs)) + 1 + length (decimal (get_or xs k 0))
-length-next xs k z h = ap length (numbers-next xs k z h) ∙ length-append (numbers (take k xs)) (comma ∷ decimal (get_or xs k 0)) ∙ omega arith
+-- ---- lengths
 
 -- the text of the first numbers is no longer than that of all
 further-part : (xs : List ℕ) (k : ℕ) → length (further (take k xs)) ≤ length (further xs)
@@ -73,6 +80,17 @@ numbers-part [] zero = omega arith
 numbers-part [] (suc k) = omega arith
 numbers-part (x ∷ xs) zero = omega arith
 numbers-part (x ∷ xs) (suc k) = omega (arith, further-part xs k, length-append (decimal x) (further (take k xs)), length-append (decimal x) (further xs))
+
+-- the digits, and a comma between two numbers
+length-further : (xs : List ℕ) → length (further xs) ≡ sum_by (λ x. length (decimal x)) xs + length xs
+unfolding further
+length-further [] = refl
+length-further (x ∷ xs) = omega (arith, length-further xs, length-append (decimal x) (further xs), sum_by-cons (λ x. length (decimal x)) x xs)
+
+pub length-numbers : (xs : List ℕ) → length (numbers xs) ≡ sum_by (λ x. length (decimal x)) xs + (length xs - 1)
+unfolding numbers
+length-numbers [] = refl
+length-numbers (x ∷ xs) = omega (arith, length-further xs, length-append (decimal x) (further xs), sum_by-cons (λ x. length (decimal x)) x xs)
 
 -- 21 bytes for each number at most
 further-most : (xs : List ℕ) → length (further xs) ≤ 21 * length xs

@@ -1,11 +1,11 @@
 -- What the checks of the calls that write a side have passed. Assumes nothing.
 use mathlib.Core.Path.{◌≡◌}
+use Rattle.std.specs.Prelude.{Ok}
 use mathlib.Core.List.{List}
 use Prim.Native.Nat.{ℕ, ◌+◌, ◌^◌, ◌≤◌, ◌<◌}
 use borrow.Author.Tests.{eqb-true}
 use lib.Ieee.{Float}
 use lib.ListN.{length, get_or}
-use Rattle.base.specs.declared.Checked.{Checked}
 use Rattle.base.proofs.Checks.{both-passed, passed}
 use Rattle.csr32.specs.Matrix.{IsMatrix}
 use Rattle.csr32.proofs.Matrix.{accepted}
@@ -13,7 +13,7 @@ use Rattle.side.specs.Check.{IsSide}
 use Rattle.side.proofs.Accepted.{accepted-side, side-as, room-passed}
 use Rattle.topology.specs.Answers.{build_check, sets_check}
 
-pub build-passed : (nrows ncols : ℕ) (ptr cols : List ℕ) (values : List Float) (optr oidx omasks : List ℕ) → build_check nrows ncols ptr cols values optr oidx omasks ≡ Checked.Accepted
+pub build-passed : (nrows ncols : ℕ) (ptr cols : List ℕ) (values : List Float) (optr oidx omasks : List ℕ) → build_check nrows ncols ptr cols values optr oidx omasks ≡ Ok tt
     → IsMatrix nrows ncols ptr cols × (nrows < length optr) × (length cols ≤ length oidx) × (length cols ≤ length omasks)
 unfolding build_check
 build-passed nrows ncols ptr cols values optr oidx omasks e =
@@ -22,7 +22,7 @@ build-passed nrows ncols ptr cols values optr oidx omasks e =
     ((accepted nrows ncols ptr cols values q.0).matrix, r.0, r.1, r.2)
 
 pub sets-passed : (nrows ncols : ℕ) (ptr idx masks : List ℕ) (pairs nrows2 ncols2 : ℕ) (ptr2 idx2 masks2 : List ℕ) (pairs2 : ℕ) (optr oidx omasks : List ℕ)
-    → ((k : ℕ) → get_or masks k 0 < 2 ^ 64) → ((k : ℕ) → get_or masks2 k 0 < 2 ^ 64) → sets_check nrows ncols ptr idx masks pairs nrows2 ncols2 ptr2 idx2 masks2 pairs2 optr oidx omasks ≡ Checked.Accepted
+    → ((k : ℕ) → get_or masks k 0 < 2 ^ 64) → ((k : ℕ) → get_or masks2 k 0 < 2 ^ 64) → sets_check nrows ncols ptr idx masks pairs nrows2 ncols2 ptr2 idx2 masks2 pairs2 optr oidx omasks ≡ Ok tt
     → IsSide nrows ncols ptr idx masks × IsSide nrows ncols ptr2 idx2 masks2 × (nrows < length optr) × (length masks + length masks2 ≤ length oidx) × (length masks + length masks2 ≤ length omasks)
 unfolding sets_check
 sets-passed nrows ncols ptr idx masks pairs nrows2 ncols2 ptr2 idx2 masks2 pairs2 optr oidx omasks fits fits2 e =

@@ -13,7 +13,7 @@ ghost use Rattle.side_sets.specs.Sets.{pairwise_pairs};
 ghost use Rattle.topology.specs.Statistics.{average_nnz_of_word, fill_ratio_of_words, bytes_per_nnz};
 ghost use Rattle.topology.specs.Answers.{build_check, sets_check, built_answer, stats_answer};
 
-use base::{Checked, Refusal};
+use base::Refusal;
 use side::SideCounts;
 use word::{AbtmTopologyWord, Operation};
 
@@ -25,18 +25,6 @@ pub struct AbtmTopologyStats {
     pub structural_nnz: u32,
     pub nonempty_words: u32,
     pub metadata_bytes: u32,
-}
-
-#[derive(Clone, Copy)]
-pub enum SideBuilt {
-    Built(SideCounts),
-    Refused(Refusal),
-}
-
-#[derive(Clone, Copy)]
-pub enum Stated {
-    Stats(AbtmTopologyStats),
-    Refused(Refusal),
 }
 
 impl AbtmTopologyStats {
@@ -74,23 +62,19 @@ pub fn validate(
     word_indices: &[u32],
     masks: &[u64],
     structural_nnz: usize,
-) -> Checked
+) -> Result<(), Refusal>
     ensures { result ≡ side_check nrows ncols row_word_ptr.now word_indices.now masks.now structural_nnz }
 {
-    match side::inner::check_limits(nrows, ncols, word_indices, masks, structural_nnz) {
-        Checked::Refused(r) => Checked::Refused(r),
-        Checked::Accepted => {
-            let fault = side::inner::fault(
-                nrows,
-                ncols,
-                row_word_ptr,
-                word_indices,
-                masks,
-                structural_nnz,
-            );
-            fault.check()
-        }
-    }
+    side::inner::check_limits(nrows, ncols, word_indices, masks, structural_nnz)?;
+    let fault = side::inner::fault(
+        nrows,
+        ncols,
+        row_word_ptr,
+        word_indices,
+        masks,
+        structural_nnz,
+    );
+    fault.check()
 }
 
 pub fn stats(
@@ -100,28 +84,24 @@ pub fn stats(
     word_indices: &[u32],
     masks: &[u64],
     structural_nnz: usize,
-) -> Stated
+) -> Result<AbtmTopologyStats, Refusal>
     ensures { result ≡ stats_answer nrows ncols row_word_ptr.now word_indices.now masks.now structural_nnz }
 {
-    match validate(
+    validate(
         nrows,
         ncols,
         row_word_ptr,
         word_indices,
         masks,
         structural_nnz,
-    ) {
-        Checked::Refused(r) => Stated::Refused(r),
-        Checked::Accepted => Stated::Stats(AbtmTopologyStats {
-            nrows: nrows as u32,
-            ncols: ncols as u32,
-            structural_nnz: structural_nnz as u32,
-            nonempty_words: masks.len() as u32,
-            metadata_bytes: (4 * row_word_ptr.len()
-                + 4 * word_indices.len()
-                + 8 * masks.len()) as u32,
-        }),
-    }
+    )?;
+    Ok(AbtmTopologyStats {
+        nrows: nrows as u32,
+        ncols: ncols as u32,
+        structural_nnz: structural_nnz as u32,
+        nonempty_words: masks.len() as u32,
+        metadata_bytes: (4 * row_word_ptr.len() + 4 * word_indices.len() + 8 * masks.len()) as u32,
+    })
 }
 
 // The matrix, then the lengths of the three lists.
@@ -134,19 +114,17 @@ fn check_build(
     row_word_ptr: &[u32],
     word_indices: &[u32],
     masks: &[u64],
-) -> Checked
+) -> Result<(), Refusal>
     ensures { result ≡ build_check nrows ncols row_ptr.now col_idx.now values.now row_word_ptr.now word_indices.now masks.now }
 {
-    match csr32::validate(nrows, ncols, row_ptr, col_idx, values) {
-        Checked::Refused(r) => Checked::Refused(r),
-        Checked::Accepted => side::inner::check_room(
-            nrows,
-            col_idx.len(),
-            row_word_ptr.len(),
-            word_indices.len(),
-            masks.len(),
-        ),
-    }
+    csr32::validate(nrows, ncols, row_ptr, col_idx, values)?;
+    side::inner::check_room(
+        nrows,
+        col_idx.len(),
+        row_word_ptr.len(),
+        word_indices.len(),
+        masks.len(),
+    )
 }
 
 // The side of the matrix's pairs; an entry that repeats is one pair.
@@ -159,13 +137,13 @@ pub fn from_csr32(
     row_word_ptr: &mut [u32],
     word_indices: &mut [u32],
     masks: &mut [u64],
-) -> SideBuilt
+) -> Result<SideCounts, Refusal>
     ensures value { result ≡ built_answer (build_check nrows ncols row_ptr.now col_idx.now values.now row_word_ptr.old word_indices.old masks.old) nrows ncols (stored row_ptr.now col_idx.now) }
     ensures pointers { row_word_ptr.new ≡ built_ptr (build_check nrows ncols row_ptr.now col_idx.now values.now row_word_ptr.old word_indices.old masks.old) nrows ncols (stored row_ptr.now col_idx.now) row_word_ptr.old }
     ensures words { word_indices.new ≡ built_words (build_check nrows ncols row_ptr.now col_idx.now values.now row_word_ptr.old word_indices.old masks.old) nrows ncols (stored row_ptr.now col_idx.now) (length col_idx.now) word_indices.old }
     ensures masked { masks.new ≡ built_masks (build_check nrows ncols row_ptr.now col_idx.now values.now row_word_ptr.old word_indices.old masks.old) nrows ncols (stored row_ptr.now col_idx.now) (length col_idx.now) masks.old }
 {
-    match check_build(
+    check_build(
         nrows,
         ncols,
         row_ptr,
@@ -174,18 +152,16 @@ pub fn from_csr32(
         row_word_ptr,
         word_indices,
         masks,
-    ) {
-        Checked::Refused(r) => SideBuilt::Refused(r),
-        Checked::Accepted => SideBuilt::Built(side_build::inner::build_side(
-            nrows,
-            ncols,
-            row_ptr,
-            col_idx,
-            row_word_ptr,
-            word_indices,
-            masks,
-        )),
-    }
+    )?;
+    Ok(side_build::inner::build_side(
+        nrows,
+        ncols,
+        row_ptr,
+        col_idx,
+        row_word_ptr,
+        word_indices,
+        masks,
+    ))
 }
 
 // The first side, the second, equal sizes, then the lengths of the three lists: as many words as both sides have together.
@@ -205,30 +181,24 @@ fn check_sets(
     row_word_ptr: &[u32],
     word_indices: &[u32],
     masks: &[u64],
-) -> Checked
+) -> Result<(), Refusal>
     ensures { result ≡ sets_check nrows ncols ptr_a.now words_a.now masks_a.now pairs_a nrows_b ncols_b ptr_b.now words_b.now masks_b.now pairs_b row_word_ptr.now word_indices.now masks.now }
 {
-    match validate(nrows, ncols, ptr_a, words_a, masks_a, pairs_a) {
-        Checked::Refused(r) => Checked::Refused(r),
-        Checked::Accepted => match validate(nrows_b, ncols_b, ptr_b, words_b, masks_b, pairs_b) {
-            Checked::Refused(r) => Checked::Refused(r),
-            Checked::Accepted => {
-                if nrows_b != nrows {
-                    return base::refused(22);
-                }
-                if ncols_b != ncols {
-                    return base::refused(22);
-                }
-                side::inner::check_room(
-                    nrows,
-                    masks_a.len() + masks_b.len(),
-                    row_word_ptr.len(),
-                    word_indices.len(),
-                    masks.len(),
-                )
-            }
-        },
+    validate(nrows, ncols, ptr_a, words_a, masks_a, pairs_a)?;
+    validate(nrows_b, ncols_b, ptr_b, words_b, masks_b, pairs_b)?;
+    if nrows_b != nrows {
+        return Err(Refusal::SidesDiffer);
     }
+    if ncols_b != ncols {
+        return Err(Refusal::SidesDiffer);
+    }
+    side::inner::check_room(
+        nrows,
+        masks_a.len() + masks_b.len(),
+        row_word_ptr.len(),
+        word_indices.len(),
+        masks.len(),
+    )
 }
 
 fn combine(
@@ -248,13 +218,13 @@ fn combine(
     row_word_ptr: &mut [u32],
     word_indices: &mut [u32],
     masks: &mut [u64],
-) -> SideBuilt
+) -> Result<SideCounts, Refusal>
     ensures value { result ≡ built_answer (sets_check nrows ncols ptr_a.now words_a.now masks_a.now pairs_a nrows_b ncols_b ptr_b.now words_b.now masks_b.now pairs_b row_word_ptr.old word_indices.old masks.old) nrows ncols (pairwise_pairs (on op) (side_holds ptr_a.now words_a.now masks_a.now) (side_holds ptr_b.now words_b.now masks_b.now)) }
     ensures pointers { row_word_ptr.new ≡ built_ptr (sets_check nrows ncols ptr_a.now words_a.now masks_a.now pairs_a nrows_b ncols_b ptr_b.now words_b.now masks_b.now pairs_b row_word_ptr.old word_indices.old masks.old) nrows ncols (pairwise_pairs (on op) (side_holds ptr_a.now words_a.now masks_a.now) (side_holds ptr_b.now words_b.now masks_b.now)) row_word_ptr.old }
     ensures words { word_indices.new ≡ built_words (sets_check nrows ncols ptr_a.now words_a.now masks_a.now pairs_a nrows_b ncols_b ptr_b.now words_b.now masks_b.now pairs_b row_word_ptr.old word_indices.old masks.old) nrows ncols (pairwise_pairs (on op) (side_holds ptr_a.now words_a.now masks_a.now) (side_holds ptr_b.now words_b.now masks_b.now)) (length masks_a.now + length masks_b.now) word_indices.old }
     ensures masked { masks.new ≡ built_masks (sets_check nrows ncols ptr_a.now words_a.now masks_a.now pairs_a nrows_b ncols_b ptr_b.now words_b.now masks_b.now pairs_b row_word_ptr.old word_indices.old masks.old) nrows ncols (pairwise_pairs (on op) (side_holds ptr_a.now words_a.now masks_a.now) (side_holds ptr_b.now words_b.now masks_b.now)) (length masks_a.now + length masks_b.now) masks.old }
 {
-    match check_sets(
+    check_sets(
         nrows,
         ncols,
         ptr_a,
@@ -270,23 +240,21 @@ fn combine(
         row_word_ptr,
         word_indices,
         masks,
-    ) {
-        Checked::Refused(r) => SideBuilt::Refused(r),
-        Checked::Accepted => SideBuilt::Built(side_sets::inner::combine(
-            nrows,
-            ncols,
-            ptr_a,
-            words_a,
-            masks_a,
-            ptr_b,
-            words_b,
-            masks_b,
-            op,
-            row_word_ptr,
-            word_indices,
-            masks,
-        )),
-    }
+    )?;
+    Ok(side_sets::inner::combine(
+        nrows,
+        ncols,
+        ptr_a,
+        words_a,
+        masks_a,
+        ptr_b,
+        words_b,
+        masks_b,
+        op,
+        row_word_ptr,
+        word_indices,
+        masks,
+    ))
 }
 
 // The pairs of both sides.
@@ -306,7 +274,7 @@ pub fn intersection(
     row_word_ptr: &mut [u32],
     word_indices: &mut [u32],
     masks: &mut [u64],
-) -> SideBuilt
+) -> Result<SideCounts, Refusal>
     ensures value { result ≡ built_answer (sets_check nrows ncols ptr_a.now words_a.now masks_a.now pairs_a nrows_b ncols_b ptr_b.now words_b.now masks_b.now pairs_b row_word_ptr.old word_indices.old masks.old) nrows ncols (pairwise_pairs (on Operation.Intersection) (side_holds ptr_a.now words_a.now masks_a.now) (side_holds ptr_b.now words_b.now masks_b.now)) }
     ensures pointers { row_word_ptr.new ≡ built_ptr (sets_check nrows ncols ptr_a.now words_a.now masks_a.now pairs_a nrows_b ncols_b ptr_b.now words_b.now masks_b.now pairs_b row_word_ptr.old word_indices.old masks.old) nrows ncols (pairwise_pairs (on Operation.Intersection) (side_holds ptr_a.now words_a.now masks_a.now) (side_holds ptr_b.now words_b.now masks_b.now)) row_word_ptr.old }
     ensures words { word_indices.new ≡ built_words (sets_check nrows ncols ptr_a.now words_a.now masks_a.now pairs_a nrows_b ncols_b ptr_b.now words_b.now masks_b.now pairs_b row_word_ptr.old word_indices.old masks.old) nrows ncols (pairwise_pairs (on Operation.Intersection) (side_holds ptr_a.now words_a.now masks_a.now) (side_holds ptr_b.now words_b.now masks_b.now)) (length masks_a.now + length masks_b.now) word_indices.old }
@@ -349,7 +317,7 @@ pub fn union(
     row_word_ptr: &mut [u32],
     word_indices: &mut [u32],
     masks: &mut [u64],
-) -> SideBuilt
+) -> Result<SideCounts, Refusal>
     ensures value { result ≡ built_answer (sets_check nrows ncols ptr_a.now words_a.now masks_a.now pairs_a nrows_b ncols_b ptr_b.now words_b.now masks_b.now pairs_b row_word_ptr.old word_indices.old masks.old) nrows ncols (pairwise_pairs (on Operation.Union) (side_holds ptr_a.now words_a.now masks_a.now) (side_holds ptr_b.now words_b.now masks_b.now)) }
     ensures pointers { row_word_ptr.new ≡ built_ptr (sets_check nrows ncols ptr_a.now words_a.now masks_a.now pairs_a nrows_b ncols_b ptr_b.now words_b.now masks_b.now pairs_b row_word_ptr.old word_indices.old masks.old) nrows ncols (pairwise_pairs (on Operation.Union) (side_holds ptr_a.now words_a.now masks_a.now) (side_holds ptr_b.now words_b.now masks_b.now)) row_word_ptr.old }
     ensures words { word_indices.new ≡ built_words (sets_check nrows ncols ptr_a.now words_a.now masks_a.now pairs_a nrows_b ncols_b ptr_b.now words_b.now masks_b.now pairs_b row_word_ptr.old word_indices.old masks.old) nrows ncols (pairwise_pairs (on Operation.Union) (side_holds ptr_a.now words_a.now masks_a.now) (side_holds ptr_b.now words_b.now masks_b.now)) (length masks_a.now + length masks_b.now) word_indices.old }
@@ -392,7 +360,7 @@ pub fn and_not(
     row_word_ptr: &mut [u32],
     word_indices: &mut [u32],
     masks: &mut [u64],
-) -> SideBuilt
+) -> Result<SideCounts, Refusal>
     ensures value { result ≡ built_answer (sets_check nrows ncols ptr_a.now words_a.now masks_a.now pairs_a nrows_b ncols_b ptr_b.now words_b.now masks_b.now pairs_b row_word_ptr.old word_indices.old masks.old) nrows ncols (pairwise_pairs (on Operation.AndNot) (side_holds ptr_a.now words_a.now masks_a.now) (side_holds ptr_b.now words_b.now masks_b.now)) }
     ensures pointers { row_word_ptr.new ≡ built_ptr (sets_check nrows ncols ptr_a.now words_a.now masks_a.now pairs_a nrows_b ncols_b ptr_b.now words_b.now masks_b.now pairs_b row_word_ptr.old word_indices.old masks.old) nrows ncols (pairwise_pairs (on Operation.AndNot) (side_holds ptr_a.now words_a.now masks_a.now) (side_holds ptr_b.now words_b.now masks_b.now)) row_word_ptr.old }
     ensures words { word_indices.new ≡ built_words (sets_check nrows ncols ptr_a.now words_a.now masks_a.now pairs_a nrows_b ncols_b ptr_b.now words_b.now masks_b.now pairs_b row_word_ptr.old word_indices.old masks.old) nrows ncols (pairwise_pairs (on Operation.AndNot) (side_holds ptr_a.now words_a.now masks_a.now) (side_holds ptr_b.now words_b.now masks_b.now)) (length masks_a.now + length masks_b.now) word_indices.old }
@@ -435,7 +403,7 @@ pub fn xor(
     row_word_ptr: &mut [u32],
     word_indices: &mut [u32],
     masks: &mut [u64],
-) -> SideBuilt
+) -> Result<SideCounts, Refusal>
     ensures value { result ≡ built_answer (sets_check nrows ncols ptr_a.now words_a.now masks_a.now pairs_a nrows_b ncols_b ptr_b.now words_b.now masks_b.now pairs_b row_word_ptr.old word_indices.old masks.old) nrows ncols (pairwise_pairs (on Operation.Xor) (side_holds ptr_a.now words_a.now masks_a.now) (side_holds ptr_b.now words_b.now masks_b.now)) }
     ensures pointers { row_word_ptr.new ≡ built_ptr (sets_check nrows ncols ptr_a.now words_a.now masks_a.now pairs_a nrows_b ncols_b ptr_b.now words_b.now masks_b.now pairs_b row_word_ptr.old word_indices.old masks.old) nrows ncols (pairwise_pairs (on Operation.Xor) (side_holds ptr_a.now words_a.now masks_a.now) (side_holds ptr_b.now words_b.now masks_b.now)) row_word_ptr.old }
     ensures words { word_indices.new ≡ built_words (sets_check nrows ncols ptr_a.now words_a.now masks_a.now pairs_a nrows_b ncols_b ptr_b.now words_b.now masks_b.now pairs_b row_word_ptr.old word_indices.old masks.old) nrows ncols (pairwise_pairs (on Operation.Xor) (side_holds ptr_a.now words_a.now masks_a.now) (side_holds ptr_b.now words_b.now masks_b.now)) (length masks_a.now + length masks_b.now) word_indices.old }

@@ -1,2 +1,3 @@
-pub mod Orders
+pub mod Twins
+pub mod Rising
 pub mod Tables

@@ -4,4 +4,5 @@
 
 pub mod inner;
 mod keys;
+mod orders;
 mod table;

@@ -7,14 +7,13 @@ use native.Mathlib.Omega.{arith}
 use native.Mathlib.Nat.{not-suc-le-zero, lt_of_le_of_lt, lt_of_lt_of_le, div-eq_of_lt, zero-add}
 use borrow.Author.Tests.{eq-eqb, ne_eqb, lt-ltb, le-ltb}
 use lib.Bits.{bit_and, bit_or, bit_xor, and_le_l, or_lt, xor_lt}
-use lib.Count.{ones}
 use lib.Dec.{T, eqb, ltb, eqb→eq}
 use lib.Pow.{pow_mono, pow-lt, pow_pos}
 use Rattle.base.specs.Sets.{one_if, adding, any_below, sum_below, count_below}
 use Rattle.base.proofs.Bools.{bool-ext, decide, T_false, not-T-of, lt-or-le, eqb_swap, or-false}
-use Rattle.base.proofs.Sets.{any-i, any-e, any_none, sum-append, count-cong, any-cong, any-or}
+use Rattle.base.proofs.Sets.{any-i, any-e, any_none, sum-append, any-cong, any-or}
 use Rattle.word.specs.Bits.{bit_at, word_from, word_of}
-use Rattle.word.proofs.Bits.{bit-zero, bit-suc, bit-or, bit-and, bit-xor, bit_not, bit-pow, zero_bit, ones-count}
+use Rattle.word.proofs.Bits.{bit-zero, bit-suc, bit-or, bit-and, bit-xor, bit_not, bit-pow, zero_bit}
 
 -- ---- a word and its bits
 
@@ -170,12 +169,6 @@ on-words k on p q at =
 pub word-op : (k : ℕ) (op : ℕ → ℕ → ℕ) (on : Bool → Bool → Bool) → Bitwise k op on → (p q : ℕ → Bool) (at : ℕ)
     → op (word_from p k at) (word_from q k at) ≡ word_from (λ i. on (p i) (q i)) k at
 word-op k op on laws p q at = op-bits k op on laws (word_from p k at) (word_from q k at) (word_lt p k at) (word_lt q k at) ∙ on-words k on p q at
-
--- ---- a word's number of members
-
--- `count_ones`
-pub ones-word : (p : ℕ → Bool) (k at : ℕ) → ones (word_from p k at) ≡ count_below k (λ j. p (at + j))
-ones-word p k at = ones-count k (word_from p k at) (word_lt p k at) ∙ count-cong k (bit_at (word_from p k at)) (λ j. p (at + j)) (λ j h. bit_word p k at j h)
 
 -- ---- the word of one number
 

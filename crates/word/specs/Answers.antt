@@ -1,10 +1,12 @@
 -- What the word's methods answer, by document 01's section 'Masks, words, blocks'.
 use Rattle.std.specs.Prelude.{Bool, not, cond, ◌&&◌, ◌||◌, List, [], ◌∷◌, ℕ, zero, suc, ltb, leb}
+use Rattle.std.specs.Prelude.{Result, Option, Some, None}
+use Rattle.base.specs.Checks.{answer}
+use Rattle.base.specs.declared.Refusal.{Refusal}
+use Rattle.base.specs.declared.Refusal.TheVariants.{OutOfRange}
 use Rattle.base.specs.Checks.{must, after}
 use Rattle.base.specs.Sets.{count_below}
 use Rattle.word.specs.Bits.{bit_at, set_bits}
-use Rattle.word.specs.declared.Ranked.{Ranked}
-use Rattle.word.specs.declared.Selected.{Selected}
 use Rattle.word.specs.declared.Operation.{Operation}
 use Rattle.word.specs.declared.Operation.TheVariants.{Union, Intersection, AndNot, Xor}
 
@@ -13,17 +15,17 @@ abbrev pub contains_answer : ℕ → ℕ → Bool
 contains_answer m k = ltb k 64 && bit_at m k
 
 -- `rank(k)` counts set bits below k, for k from 0 to 64
-abbrev pub rank_answer : ℕ → ℕ → Ranked
-rank_answer m k = after (must (leb k 64) 13) (Ranked.At (count_below k (bit_at m))) Ranked.Refused
+abbrev pub rank_answer : ℕ → ℕ → Result ℕ Refusal
+rank_answer m k = answer (must (leb k 64) OutOfRange) (count_below k (bit_at m))
 
 -- element j of a list, from 0, or none
-abbrev pub entry : List ℕ → ℕ → Selected
-entry [] j = Selected.Nothing
-entry (x ∷ l) zero = Selected.At x
+abbrev pub entry : List ℕ → ℕ → Option ℕ
+entry [] j = None
+entry (x ∷ l) zero = Some x
 entry (x ∷ l) (suc j) = entry l j
 
 -- `select(j)` is the j-th set bit from 0, or none
-abbrev pub select_answer : ℕ → ℕ → Selected
+abbrev pub select_answer : ℕ → ℕ → Option ℕ
 select_answer m j = entry (set_bits m) j
 
 -- what an operation does to one bit

@@ -1,6 +1,6 @@
 // A word of a topology row: 64 columns, bit i of the mask for column word_index * 64 + i. The laws of bits stand in proofs/, once for all
 // crates above.
-#![tactic(auto)]
+#![tactic(auto, using(crate::proofs::Answers::methods))]
 
 ghost use Rattle.std.specs.Prelude.{◌≡◌, ◌*◌};
 ghost use Rattle.base.specs.Sets.{count_below};
@@ -8,18 +8,6 @@ ghost use Rattle.word.specs.Bits.{bit_at, word_from};
 ghost use Rattle.word.specs.Answers.{contains_answer, rank_answer, select_answer, on};
 
 use base::Refusal;
-
-#[derive(Clone, Copy)]
-pub enum Ranked {
-    At(usize),
-    Refused(Refusal),
-}
-
-#[derive(Clone, Copy)]
-pub enum Selected {
-    At(usize),
-    Nothing,
-}
 
 // An operation on two words, bit by bit.
 #[derive(Clone, Copy)]
@@ -92,32 +80,30 @@ impl AbtmTopologyWord {
         }
     }
 
-    pub fn rank(self, offset: usize) -> Ranked
+    pub fn rank(self, offset: usize) -> Result<usize, Refusal>
         ensures { result ≡ rank_answer self.mask offset }
     {
         if offset > AbtmTopologyWord::BITS {
-            return Ranked::Refused(Refusal::plain(13));
+            return Err(Refusal::OutOfRange);
         }
         if offset == AbtmTopologyWord::BITS {
-            return Ranked::At(self.popcount());
+            return Ok(self.popcount());
         }
         let below = (1u64 << offset) - 1;
         let count = u64::count_ones(self.mask & below) as usize;
-        Ranked::At(count)
+        Ok(count)
     }
 
-    pub fn select(self, ordinal: usize) -> Selected
+    pub fn select(self, ordinal: usize) -> Option<usize>
         ensures { result ≡ select_answer self.mask ordinal }
     {
         if ordinal >= self.popcount() {
-            return Selected::Nothing;
+            return None;
         }
         let mut bits = self.mask;
-        let mut k: usize = 0;
-        while k < ordinal {
-            bits = bits & (bits - 1);
-            k += 1;
+        for _ in 0..ordinal {
+            bits &= bits - 1;
         }
-        Selected::At(u64::trailing_zeros(bits) as usize)
+        Some(u64::trailing_zeros(bits) as usize)
     }
 }

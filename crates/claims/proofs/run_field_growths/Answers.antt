@@ -1,6 +1,8 @@
 -- `claims::run_field_growths` meets its contract. Assumes nothing.
 use mathlib.Core.Path.{◌≡◌, sym, ap, ◌∙◌}
-use Rattle.base.specs.declared.Checked.{Checked}
+use Rattle.std.specs.Prelude.{Ok}
+use Rattle.base.specs.Checks.{Check, answer}
+use Rattle.base.proofs.Checks.{handed}
 use Rattle.base.proofs.Checks.{on-accepted, on-refused, kept}
 use Rattle.csr32.specs.Matrix.{matrix_check, stored}
 use Rattle.dof_layout.specs.Answers.{square_check}
@@ -12,13 +14,14 @@ use Rattle.growths.specs.Counts.{seeds_after, region_once_grown, frontier_once_g
 use Rattle.claims.specs.Cutting.{system_of}
 use Rattle.claims.specs.Run.{square_topology, arrays_check, field_run_check}
 use Rattle.growths.specs.declared.Ran.{Ran}
-use Rattle.claims.specs.declared.RunAnswer.{RunAnswer}
+use Rattle.claims.specs.Run.{with_cut, without_cut}
+use Rattle.std.specs.Prelude.{Err}
 use Rattle.claims.proofs.Checking.{accepted-sides, accepted-arrays, accepted-field-run}
 use Rattle.claims.proofs.Finishing.{planned-after, gathered-after, answer-after}
-use Rattle.claims.proofs.run_field_growths.Goals.{In-Accepted, Start}
+use Rattle.claims.proofs.run_field_growths.Goals.{In_ok-check_field_run, Start}
 use Rattle.claims.proofs.run_field_growths.Goals as goal
 
-abbrev check : Start → Checked
+abbrev check : Start → Check
 check s = field_run_check (matrix_check s.args.matrix_nrows s.args.matrix_ncols s.args.row_ptr.now s.args.col_idx.now s.args.values.now) (square_topology (topology_check s.args.nrows s.args.ncols s.args.row_word_ptr.now s.args.row_word_indices.now s.args.row_masks.now s.args.structural_nnz s.args.column_nrows s.args.column_ncols s.args.column_word_ptr.now s.args.column_word_indices.now s.args.column_masks.now s.args.column_structural_nnz) s.args.nrows s.args.ncols s.args.matrix_nrows s.args.matrix_ncols) (square_check s.args.entity_kinds.now s.args.entity_ids.now s.args.field_ids.now s.args.components.now s.args.offsets.now s.args.nrows s.args.ncols) (arrays_check s.args.nrows s.args.len s.args.seeds.now (side_holds s.args.row_word_ptr.now s.args.row_word_indices.now s.args.row_masks.now) (stored s.args.row_ptr.now s.args.col_idx.now) s.args.hops.now s.args.rooms.now)
 
 abbrev network : Start → Network
@@ -29,20 +32,20 @@ system s =
     system_of s.args.nrows s.args.row_ptr.now s.args.col_idx.now s.args.values.now s.args.row_word_ptr.now s.args.row_word_indices.now s.args.row_masks.now s.args.structural_nnz s.args.column_word_ptr.now s.args.column_word_indices.now s.args.column_masks.now s.args.column_structural_nnz s.args.len s.args.seeds.now
 
 -- in this arm the checks accepted
-ok : (c : In-Accepted) → check (goal.at.In-Accepted c).Start ≡ Checked.Accepted
-ok c = sym c.check_field_run.ensures ∙ c.in-Accepted.is
+ok : (c : In_ok-check_field_run) → check (goal.at.In_ok-check_field_run c).Start ≡ Ok tt
+ok c = sym c.check_field_run.ensures ∙ c.in_ok-check_field_run.was
 
 pub grow_field_list-ran-requires : goal.grow_field_list-ran-requires
 grow_field_list-ran-requires c =
-    let a = accepted-field-run _ _ _ _ (ok (goal.at.grow_field_list-ran-requires c).In-Accepted) in
+    let a = accepted-field-run _ _ _ _ (ok (goal.at.grow_field_list-ran-requires c).In_ok-check_field_run) in
     let b = accepted-sides (topology_check c.args.nrows c.args.ncols c.args.row_word_ptr.now c.args.row_word_indices.now c.args.row_masks.now c.args.structural_nnz c.args.column_nrows c.args.column_ncols c.args.column_word_ptr.now c.args.column_word_indices.now c.args.column_masks.now c.args.column_structural_nnz) c.args.nrows c.args.ncols c.args.matrix_nrows c.args.matrix_ncols a.1 in
     let d = accepted-arrays c.args.nrows c.args.len c.args.seeds.now (side_holds c.args.row_word_ptr.now c.args.row_word_indices.now c.args.row_masks.now) (stored c.args.row_ptr.now c.args.col_idx.now) c.args.hops.now c.args.rooms.now a.3 in
     (b.topology_ok, a.2, d.mask, d.one_each)
 
-pub returns-in-Refused : goal.returns-in-Refused
-returns-in-Refused c =
-    let e = sym c.check_field_run.ensures ∙ c.in-Refused.is in record {
-      value = on-refused _ _ _ RunAnswer.Refused e;
+pub returns-in_err-check_field_run : goal.returns-in_err-check_field_run
+returns-in_err-check_field_run c =
+    let e = sym c.check_field_run.ensures ∙ c.in_err-check_field_run.was in record {
+      value = handed _ _ c.from_residual.ensures.1 ∙ on-refused _ _ _ Err e;
       renewed = kept _ _ _ _ e;
       inside = kept _ _ _ _ e;
       edge = kept _ _ _ _ e;
@@ -55,20 +58,20 @@ returns-in-Refused c =
       filled = kept _ _ _ _ e;
     }
 
-pub returns-in-Accepted : goal.returns-in-Accepted
-returns-in-Accepted c =
-    let e = ok (goal.at.returns-in-Accepted c).In-Accepted in
+pub returns : goal.returns
+returns c =
+    let e = ok (goal.at.returns c).In_ok-check_field_run in
     let u = c.grow_field_list-ran.ensures in
     let v = c.finish.ensures in record {
-      value = on-accepted _ _ _ _ e (v.value ∙ answer-after (network (goal.at.returns-in-Accepted c).Start) (system (goal.at.returns-in-Accepted c).Start) _ _ _ u.value u.renewed c.args.global_nodes.now c.args.local_row_ptr.now c.args.local_col_idx.now c.args.source_ptr.now c.args.source_indices.now c.args.new_values.now c.args.out.now);
-      renewed = on-accepted _ _ _ _ e (u.renewed ∙ ap (λ (r : Ran). seeds_after (network (goal.at.returns-in-Accepted c).Start) r c.args.seeds.now) u.value);
-      inside = on-accepted _ _ _ _ e (u.inside ∙ ap (λ (r : Ran). region_once_grown (network (goal.at.returns-in-Accepted c).Start) r c.args.seeds.now c.args.region.now) u.value);
-      edge = on-accepted _ _ _ _ e (u.edge ∙ ap (λ (r : Ran). frontier_once_grown (network (goal.at.returns-in-Accepted c).Start) r c.args.seeds.now c.args.frontier.now) u.value);
-      spent = on-accepted _ _ _ _ e (u.spent ∙ ap (λ (r : Ran). scratch_once_grown (network (goal.at.returns-in-Accepted c).Start) r c.args.scratch.now) u.value);
-      members = on-accepted _ _ _ _ e (v.members ∙ planned-after (network (goal.at.returns-in-Accepted c).Start) (system (goal.at.returns-in-Accepted c).Start) _ _ _ u.value u.renewed c.args.global_nodes.now c.args.local_row_ptr.now c.args.local_col_idx.now c.args.source_ptr.now c.args.source_indices.now (λ p. p.nodes) c.args.global_nodes.now);
-      pointers = on-accepted _ _ _ _ e (v.pointers ∙ planned-after (network (goal.at.returns-in-Accepted c).Start) (system (goal.at.returns-in-Accepted c).Start) _ _ _ u.value u.renewed c.args.global_nodes.now c.args.local_row_ptr.now c.args.local_col_idx.now c.args.source_ptr.now c.args.source_indices.now (λ p. p.ptr) c.args.local_row_ptr.now);
-      columns = on-accepted _ _ _ _ e (v.columns ∙ planned-after (network (goal.at.returns-in-Accepted c).Start) (system (goal.at.returns-in-Accepted c).Start) _ _ _ u.value u.renewed c.args.global_nodes.now c.args.local_row_ptr.now c.args.local_col_idx.now c.args.source_ptr.now c.args.source_indices.now (λ p. p.columns) c.args.local_col_idx.now);
-      starts = on-accepted _ _ _ _ e (v.starts ∙ planned-after (network (goal.at.returns-in-Accepted c).Start) (system (goal.at.returns-in-Accepted c).Start) _ _ _ u.value u.renewed c.args.global_nodes.now c.args.local_row_ptr.now c.args.local_col_idx.now c.args.source_ptr.now c.args.source_indices.now (λ p. p.source_ptr) c.args.source_ptr.now);
-      sources = on-accepted _ _ _ _ e (v.sources ∙ planned-after (network (goal.at.returns-in-Accepted c).Start) (system (goal.at.returns-in-Accepted c).Start) _ _ _ u.value u.renewed c.args.global_nodes.now c.args.local_row_ptr.now c.args.local_col_idx.now c.args.source_ptr.now c.args.source_indices.now (λ p. p.sources) c.args.source_indices.now);
-      filled = on-accepted _ _ _ _ e (v.filled ∙ gathered-after (network (goal.at.returns-in-Accepted c).Start) (system (goal.at.returns-in-Accepted c).Start) _ _ _ u.value u.renewed c.args.global_nodes.now c.args.local_row_ptr.now c.args.local_col_idx.now c.args.source_ptr.now c.args.source_indices.now c.args.new_values.now c.args.out.now);
+      value = on-accepted _ _ _ _ e (ap Ok (v.value ∙ answer-after (network (goal.at.returns c).Start) (system (goal.at.returns c).Start) _ _ _ u.value u.renewed c.args.global_nodes.now c.args.local_row_ptr.now c.args.local_col_idx.now c.args.source_ptr.now c.args.source_indices.now c.args.new_values.now c.args.out.now));
+      renewed = on-accepted _ _ _ _ e (u.renewed ∙ ap (λ (r : Ran). seeds_after (network (goal.at.returns c).Start) r c.args.seeds.now) u.value);
+      inside = on-accepted _ _ _ _ e (u.inside ∙ ap (λ (r : Ran). region_once_grown (network (goal.at.returns c).Start) r c.args.seeds.now c.args.region.now) u.value);
+      edge = on-accepted _ _ _ _ e (u.edge ∙ ap (λ (r : Ran). frontier_once_grown (network (goal.at.returns c).Start) r c.args.seeds.now c.args.frontier.now) u.value);
+      spent = on-accepted _ _ _ _ e (u.spent ∙ ap (λ (r : Ran). scratch_once_grown (network (goal.at.returns c).Start) r c.args.scratch.now) u.value);
+      members = on-accepted _ _ _ _ e (v.members ∙ planned-after (network (goal.at.returns c).Start) (system (goal.at.returns c).Start) _ _ _ u.value u.renewed c.args.global_nodes.now c.args.local_row_ptr.now c.args.local_col_idx.now c.args.source_ptr.now c.args.source_indices.now (λ p. p.nodes) c.args.global_nodes.now);
+      pointers = on-accepted _ _ _ _ e (v.pointers ∙ planned-after (network (goal.at.returns c).Start) (system (goal.at.returns c).Start) _ _ _ u.value u.renewed c.args.global_nodes.now c.args.local_row_ptr.now c.args.local_col_idx.now c.args.source_ptr.now c.args.source_indices.now (λ p. p.ptr) c.args.local_row_ptr.now);
+      columns = on-accepted _ _ _ _ e (v.columns ∙ planned-after (network (goal.at.returns c).Start) (system (goal.at.returns c).Start) _ _ _ u.value u.renewed c.args.global_nodes.now c.args.local_row_ptr.now c.args.local_col_idx.now c.args.source_ptr.now c.args.source_indices.now (λ p. p.columns) c.args.local_col_idx.now);
+      starts = on-accepted _ _ _ _ e (v.starts ∙ planned-after (network (goal.at.returns c).Start) (system (goal.at.returns c).Start) _ _ _ u.value u.renewed c.args.global_nodes.now c.args.local_row_ptr.now c.args.local_col_idx.now c.args.source_ptr.now c.args.source_indices.now (λ p. p.source_ptr) c.args.source_ptr.now);
+      sources = on-accepted _ _ _ _ e (v.sources ∙ planned-after (network (goal.at.returns c).Start) (system (goal.at.returns c).Start) _ _ _ u.value u.renewed c.args.global_nodes.now c.args.local_row_ptr.now c.args.local_col_idx.now c.args.source_ptr.now c.args.source_indices.now (λ p. p.sources) c.args.source_indices.now);
+      filled = on-accepted _ _ _ _ e (v.filled ∙ gathered-after (network (goal.at.returns c).Start) (system (goal.at.returns c).Start) _ _ _ u.value u.renewed c.args.global_nodes.now c.args.local_row_ptr.now c.args.local_col_idx.now c.args.source_ptr.now c.args.source_indices.now c.args.new_values.now c.args.out.now);
     }

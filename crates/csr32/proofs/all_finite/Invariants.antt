@@ -1,13 +1,8 @@
-use mathlib.Core.Path.{◌≡◌}
-use mathlib.Core.Bool.{◌&&◌}
-use Prim.Native.Nat.{◌-◌, ◌≤◌}
-use lib.ListN.{length, drop}
+-- `csr32::all_finite`: the values so far are finite.
+use Rattle.std.proofs.Common.{◌≡◌, take}
 use Rattle.base.specs.Lists.{every}
 use Rattle.csr32.specs.Matrix.{finite}
 use Rattle.csr32.proofs.all_finite.Given as goal
 
-abbrev pub invariant-loop-i : goal.invariant-loop-i
-invariant-loop-i l = (l.i ≤ length l.s) × (every finite l.s ≡ (l.all && every finite (drop l.i l.s)))
-
-abbrev pub decreases-loop-i : goal.decreases-loop-i
-decreases-loop-i l = length l.s - l.i
+abbrev pub invariant-loop-x : goal.invariant-loop-x
+invariant-loop-x l = l.all ≡ every finite (take l.x-index l.s)

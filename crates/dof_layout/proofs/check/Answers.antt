@@ -1,30 +1,31 @@
 -- `dof_layout::check` meets its contract. Assumes nothing.
 use mathlib.Core.Path.{◌≡◌, refl, sym, ◌∙◌}
-use Rattle.base.specs.declared.Checked.{Checked}
+use Rattle.std.specs.Prelude.{Ok}
+use Rattle.base.proofs.Checks.{handed}
 use Rattle.base.proofs.Checks.{group-pass, group-stop, last-pass, last-stop}
 use Rattle.dof_layout.specs.Layout.{blocks_check, layout_check, AreBlocks}
 use Rattle.dof_layout.proofs.Layouts.{accepted-blocks}
-use Rattle.dof_layout.proofs.check.Goals.{In-Accepted}
+use Rattle.dof_layout.proofs.check.Goals.{In_ok-check}
 use Rattle.dof_layout.proofs.check.Goals as goal
 
 -- in this arm the blocks are accepted
-ok : (c : In-Accepted) → blocks_check c.args.entity_kinds.now c.args.entity_ids.now c.args.field_ids.now c.args.components.now ≡ Checked.Accepted
-ok c = sym c.check-checked.ensures ∙ c.in-Accepted.is
+ok : (c : In_ok-check) → blocks_check c.args.entity_kinds.now c.args.entity_ids.now c.args.field_ids.now c.args.components.now ≡ Ok tt
+ok c = sym c.check.ensures ∙ c.in_ok-check.was
 
-blocks : (c : In-Accepted) → AreBlocks c.args.entity_kinds.now c.args.entity_ids.now c.args.field_ids.now c.args.components.now
+blocks : (c : In_ok-check) → AreBlocks c.args.entity_kinds.now c.args.entity_ids.now c.args.field_ids.now c.args.components.now
 blocks c = accepted-blocks _ _ _ _ (ok c)
 
 pub are_offsets-requires : goal.are_offsets-requires
-are_offsets-requires c = (blocks (goal.at.are_offsets-requires c).In-Accepted).short
+are_offsets-requires c = (blocks (goal.at.are_offsets-requires c).In_ok-check).short
 
 pub returns-then-not-are_offsets : goal.returns-then-not-are_offsets
 unfolding layout_check
-returns-then-not-are_offsets c = group-pass _ _ _ (ok (goal.at.returns-then-not-are_offsets c).In-Accepted) (last-stop _ _ _ ((sym c.are_offsets.ensures ∙ c.if-not-are_offsets.true)) c.refused.ensures)
+returns-then-not-are_offsets c = group-pass _ _ _ (ok (goal.at.returns-then-not-are_offsets c).In_ok-check) (last-stop _ _ _ ((sym c.are_offsets.ensures ∙ c.if-not-are_offsets.true)) refl)
 
-pub returns-in-Refused : goal.returns-in-Refused
+pub returns-in_err-check : goal.returns-in_err-check
 unfolding layout_check
-returns-in-Refused c = group-stop _ _ _ (sym c.check-checked.ensures ∙ c.in-Refused.is)
+returns-in_err-check c = handed _ _ c.from_residual.ensures.1 ∙ group-stop _ _ _ (sym c.check.ensures ∙ c.in_err-check.was)
 
-pub returns-else-not-are_offsets : goal.returns-else-not-are_offsets
+pub returns : goal.returns
 unfolding layout_check
-returns-else-not-are_offsets c = group-pass _ _ _ (ok (goal.at.returns-else-not-are_offsets c).In-Accepted) (last-pass _ _ _ ((sym c.are_offsets.ensures ∙ c.if-not-are_offsets.false)) refl)
+returns c = group-pass _ _ _ (ok (goal.at.returns c).In_ok-check) (last-pass _ _ _ ((sym c.are_offsets.ensures ∙ c.if-not-are_offsets.false)) refl)

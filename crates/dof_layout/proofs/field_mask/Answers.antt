@@ -1,76 +1,76 @@
 -- `dof_layout::field_mask` meets its contract. Assumes nothing.
 use mathlib.Core.Path.{◌≡◌, refl, sym, ap, ◌∙◌, subst}
+use Rattle.std.specs.Prelude.{Ok, Err}
+use Rattle.base.proofs.Checks.{handed}
 use mathlib.Core.List.{List, ◌++◌}
 use Prim.Native.Nat.{ℕ, ◌≤◌, ◌<◌}
 use native.Mathlib.Omega.{arith}
 use borrow.Author.Tests.{le-leb, lt-leb}
 use lib.ListN.{length, get_or, drop}
 use lib.Seq.{length-take-le}
-use Rattle.base.specs.declared.Checked.{Checked}
-use Rattle.base.specs.declared.Counted.{Counted}
 use Rattle.base.proofs.Checks.{on-accepted, on-refused, kept, group-pass, group-stop, last-pass, last-stop}
 use Rattle.dof_layout.specs.Layout.{total_of, layout_check, IsLayout}
 use Rattle.dof_layout.specs.Answers.{field_check, has_field}
 use Rattle.dof_layout.proofs.Layouts.{total-at, offsets-count, accepted-layout}
 use Rattle.mask.specs.Mask.{words_needed, mask_words}
 use Rattle.mask.proofs.Masks.{mask-length}
-use Rattle.dof_layout.proofs.field_mask.Goals.{After-words_for-need, In-Accepted}
+use Rattle.dof_layout.proofs.field_mask.Goals.{After-words_for-need, In_ok-check}
 use Rattle.dof_layout.proofs.field_mask.Goals as goal
 
 -- in this arm the layout is accepted
-ok : (c : In-Accepted) → layout_check c.args.entity_kinds.now c.args.entity_ids.now c.args.field_ids.now c.args.components.now c.args.offsets.now ≡ Checked.Accepted
-ok c = sym c.check-checked.ensures ∙ c.in-Accepted.is
+ok : (c : In_ok-check) → layout_check c.args.entity_kinds.now c.args.entity_ids.now c.args.field_ids.now c.args.components.now c.args.offsets.now ≡ Ok tt
+ok c = sym c.check.ensures ∙ c.in_ok-check.was
 
-layout : (c : In-Accepted) → IsLayout c.args.entity_kinds.now c.args.entity_ids.now c.args.field_ids.now c.args.components.now c.args.offsets.now
+layout : (c : In_ok-check) → IsLayout c.args.entity_kinds.now c.args.entity_ids.now c.args.field_ids.now c.args.components.now c.args.offsets.now
 layout c = accepted-layout _ _ _ _ _ (ok c)
 
 -- the last offset is the total
-total : (c : In-Accepted) → get_or c.args.offsets.now (length c.args.components.now) 0 ≡ total_of c.args.components.now
+total : (c : In_ok-check) → get_or c.args.offsets.now (length c.args.components.now) 0 ≡ total_of c.args.components.now
 total c = total-at _ _ _ (layout c).running (omega arith)
 
 pub bounds-offsets-components : goal.bounds-offsets-components
-bounds-offsets-components c = omega (arith, offsets-count _ _ (layout (goal.at.bounds-offsets-components c).In-Accepted).running)
+bounds-offsets-components c = omega (arith, offsets-count _ _ (layout (goal.at.bounds-offsets-components c).In_ok-check).running)
 
 pub words_for-need-requires : goal.words_for-need-requires
-words_for-need-requires c = omega (arith, total (goal.at.words_for-need-requires c).In-Accepted, (layout (goal.at.words_for-need-requires c).In-Accepted).blocks.short)
+words_for-need-requires c = omega (arith, total (goal.at.words_for-need-requires c).In_ok-check, (layout (goal.at.words_for-need-requires c).In_ok-check).blocks.short)
 
 -- what is needed: the words of a mask of that many nodes
 needed : (c : After-words_for-need) → c.words_for-need.result ≡ words_needed (total_of c.args.components.now)
-needed c = c.words_for-need.ensures ∙ ap words_needed (total (goal.at.After-words_for-need c).In-Accepted)
+needed c = c.words_for-need.ensures ∙ ap words_needed (total (goal.at.After-words_for-need c).In_ok-check)
 
 pub returns-then-out-need : goal.returns-then-out-need
 unfolding field_check
 returns-then-out-need c =
-    let e = sym (group-pass _ _ _ (ok (goal.at.returns-then-out-need c).In-Accepted) (last-stop _ _ _ (lt-leb _ _ (subst (λ (n : ℕ). length c.args.out.now < n) (needed (goal.at.returns-then-out-need c).After-words_for-need) c.if-out-need.true)) refl)) in record {
-      value = ap Counted.Refused c.plain.ensures ∙ on-refused _ _ _ Counted.Refused e;
+    let e = sym (group-pass _ _ _ (ok (goal.at.returns-then-out-need c).In_ok-check) (last-stop _ _ _ (lt-leb _ _ (subst (λ (n : ℕ). length c.args.out.now < n) (needed (goal.at.returns-then-out-need c).After-words_for-need) c.if-out-need.true)) refl)) in record {
+      value = on-refused _ _ _ Err e;
       out_after = kept _ _ _ _ e;
     }
 
-pub slice_bounds-fill_field-end-in-Accepted : goal.slice_bounds-fill_field-end-in-Accepted
-slice_bounds-fill_field-end-in-Accepted c = sym (length-take-le _ _ c.if-out-need.false)
+pub slice_bounds-fill_field-end-2 : goal.slice_bounds-fill_field-end-2
+slice_bounds-fill_field-end-2 c = sym (length-take-le _ _ c.if-out-need.false)
 
 pub fill_field-requires : goal.fill_field-requires
 fill_field-requires c =
-    let l = layout (goal.at.fill_field-requires c).In-Accepted in
+    let l = layout (goal.at.fill_field-requires c).In_ok-check in
     (l.running, l.blocks.fields_length ∙ sym l.blocks.components_length, l.blocks.short, length-take-le _ _ c.if-out-need.false ∙ needed (goal.at.fill_field-requires c).After-words_for-need)
 
-pub returns-in-Refused : goal.returns-in-Refused
+pub returns-in_err-check : goal.returns-in_err-check
 unfolding field_check
-returns-in-Refused c =
-    let e = sym (group-stop _ _ _ (sym c.check-checked.ensures ∙ c.in-Refused.is)) in record {
-      value = on-refused _ _ _ Counted.Refused e;
+returns-in_err-check c =
+    let e = sym (group-stop _ _ _ (sym c.check.ensures ∙ c.in_err-check.was)) in record {
+      value = handed _ _ c.from_residual.ensures.1 ∙ on-refused _ _ _ Err e;
       out_after = kept _ _ _ _ e;
     }
 
-pub returns-else-out-need : goal.returns-else-out-need
+pub returns : goal.returns
 unfolding field_check
-returns-else-out-need c =
+returns c =
     let s = c.args in
     let T = total_of s.components.now in
     let p = has_field s.field_ids.now s.components.now s.field_id in
-    let n = needed (goal.at.returns-else-out-need c).After-words_for-need in
-    let e = sym (group-pass _ _ _ (ok (goal.at.returns-else-out-need c).In-Accepted) (last-pass _ _ _ (le-leb _ _ (subst (λ (k : ℕ). k ≤ length s.out.now) n c.if-out-need.false)) refl)) in record {
-      value = on-accepted _ _ _ _ e (ap Counted.Count (total (goal.at.returns-else-out-need c).In-Accepted));
+    let n = needed (goal.at.returns c).After-words_for-need in
+    let e = sym (group-pass _ _ _ (ok (goal.at.returns c).In_ok-check) (last-pass _ _ _ (le-leb _ _ (subst (λ (k : ℕ). k ≤ length s.out.now) n c.if-out-need.false)) refl)) in record {
+      value = on-accepted _ _ _ _ e (ap Ok (total (goal.at.returns c).In_ok-check));
       out_after = on-accepted _ _ _ _ e
           (ap (λ (x : List ℕ). x ++ drop c.words_for-need.result s.out.now) c.fill_field.ensures
           ∙ ap (λ (k : ℕ). mask_words T p ++ drop k s.out.now) (n ∙ sym (mask-length T p)));

@@ -1,9 +1,9 @@
 -- `dof_layout::kind_of` meets its contract. Assumes nothing.
 use mathlib.Core.Path.{refl, sym, ap, ◌∙◌}
+use Rattle.std.specs.Prelude.{Err}
 use native.Mathlib.Omega.{arith}
 use Rattle.base.proofs.Checks.{on-refused, last-stop}
 use Rattle.base.specs.Checks.{must}
-use Rattle.dof_layout.specs.declared.Kinded.{Kinded}
 use Rattle.dof_layout.specs.Layout.{is_kind_code}
 use Rattle.dof_layout.specs.Answers.{kind_answer, kind_named}
 use Rattle.dof_layout.proofs.Codes.{no_kind, outside}
@@ -40,5 +40,4 @@ returns-in-255 c = sym (ap kind_answer c.in-255.is)
 pub returns-in_default : goal.returns-in_default
 returns-in_default c =
     let low = outside c.args.code (λ e. omega arith) (λ e. omega arith) (λ e. omega arith) (λ e. omega arith) (λ e. omega arith) (λ e. omega arith) in
-    ap Kinded.Refused c.plain.ensures
-    ∙ on-refused _ _ _ Kinded.Refused (sym (last-stop _ _ _ (no_kind _ low (λ e. omega arith)) refl))
+    on-refused _ _ _ Err (sym (last-stop _ _ _ (no_kind _ low (λ e. omega arith)) refl))

@@ -1,46 +1,47 @@
 -- `dof_layout::locate` meets its contract. Assumes nothing.
 use mathlib.Core.Path.{◌≡◌, sym, ap, ap₂, ◌∙◌, subst}
+use Rattle.std.specs.Prelude.{Some}
+use Rattle.std.specs.Prelude.{Ok, Err, None}
+use Rattle.base.proofs.Checks.{handed}
 use mathlib.Core.Bool.{Bool, cond}
 use Prim.Native.Nat.{ℕ, ◌-◌, ◌≤◌, ◌<◌}
 use native.Mathlib.Omega.{arith}
 use borrow.Author.Tests.{lt-ltb, le-ltb}
 use lib.Dec.{T}
 use lib.ListN.{length, get_or}
-use Rattle.base.specs.declared.Checked.{Checked}
 use Rattle.base.proofs.Checks.{on-accepted, on-refused}
 use Rattle.dof_layout.specs.Layout.{start_of, total_of, in_block, block_of, layout_check, IsLayout}
 use Rattle.dof_layout.specs.Answers.{address_of}
-use Rattle.dof_layout.specs.declared.Located.{Located}
 use Rattle.dof_layout.proofs.Layouts.{start-zero, total-at, offsets-count, block-holds, block-from, accepted-layout, total-is}
-use Rattle.dof_layout.proofs.locate.Goals.{After-locate-block_index, Else-dof-offsets, In-Accepted}
+use Rattle.dof_layout.proofs.locate.Goals.{After-locate-block_index, Else-dof-offsets, In_ok-check}
 use Rattle.dof_layout.proofs.locate.Goals as goal
 
 -- in this arm the layout is accepted
-ok : (c : In-Accepted) → layout_check c.args.entity_kinds.now c.args.entity_ids.now c.args.field_ids.now c.args.components.now c.args.offsets.now ≡ Checked.Accepted
-ok c = sym c.check-checked.ensures ∙ c.in-Accepted.is
+ok : (c : In_ok-check) → layout_check c.args.entity_kinds.now c.args.entity_ids.now c.args.field_ids.now c.args.components.now c.args.offsets.now ≡ Ok tt
+ok c = sym c.check.ensures ∙ c.in_ok-check.was
 
-layout : (c : In-Accepted) → IsLayout c.args.entity_kinds.now c.args.entity_ids.now c.args.field_ids.now c.args.components.now c.args.offsets.now
+layout : (c : In_ok-check) → IsLayout c.args.entity_kinds.now c.args.entity_ids.now c.args.field_ids.now c.args.components.now c.args.offsets.now
 layout c = accepted-layout _ _ _ _ _ (ok c)
 
 -- the last offset is the total
-total : (c : In-Accepted) → get_or c.args.offsets.now (length c.args.components.now) 0 ≡ total_of c.args.components.now
+total : (c : In_ok-check) → get_or c.args.offsets.now (length c.args.components.now) 0 ≡ total_of c.args.components.now
 total c = total-is _ _ (layout c).running
 
 pub bounds-offsets-components : goal.bounds-offsets-components
-bounds-offsets-components c = omega (arith, offsets-count _ _ (layout (goal.at.bounds-offsets-components c).In-Accepted).running)
+bounds-offsets-components c = omega (arith, offsets-count _ _ (layout (goal.at.bounds-offsets-components c).In_ok-check).running)
 
 pub returns-then-dof-offsets : goal.returns-then-dof-offsets
 returns-then-dof-offsets c =
     let s = c.args in
-    on-accepted _ _ _ _ (ok (goal.at.returns-then-dof-offsets c).In-Accepted) (sym (ap (λ (t : Bool). cond t (Located.At (address_of s.components.now s.dof)) Located.Nothing) (le-ltb s.dof (total_of s.components.now) (omega (arith, total (goal.at.returns-then-dof-offsets c).In-Accepted, c.if-dof-offsets.true)))))
+    on-accepted _ _ _ _ (ok (goal.at.returns-then-dof-offsets c).In_ok-check) (sym (ap (λ (t : Bool). Ok (cond t (Some (address_of s.components.now s.dof)) None)) (le-ltb s.dof (total_of s.components.now) (omega (arith, total (goal.at.returns-then-dof-offsets c).In_ok-check, c.if-dof-offsets.true)))))
 
 inside : (c : Else-dof-offsets) → c.args.dof < total_of c.args.components.now
-inside c = omega (arith, total (goal.at.Else-dof-offsets c).In-Accepted, c.if-dof-offsets.false)
+inside c = omega (arith, total (goal.at.Else-dof-offsets c).In_ok-check, c.if-dof-offsets.false)
 
 pub locate-block_index-requires : goal.locate-block_index-requires
 locate-block_index-requires c =
     let s = c.args in
-    let l = layout (goal.at.locate-block_index-requires c).In-Accepted in
+    let l = layout (goal.at.locate-block_index-requires c).In_ok-check in
     (l.running, omega (arith, l.blocks.some, l.blocks.components_length), omega arith, omega (arith, start-zero s.components.now), inside (goal.at.locate-block_index-requires c).Else-dof-offsets)
 
 held : (c : Else-dof-offsets) → (block_of c.args.components.now c.args.dof < length c.args.components.now) × T (in_block c.args.components.now (block_of c.args.components.now c.args.dof) c.args.dof)
@@ -48,29 +49,29 @@ held c = block-holds _ _ (inside c)
 
 -- the offset of the found block is where the node's block starts, and the node is not before it
 start : (c : After-locate-block_index) → get_or c.args.offsets.now c.locate-block_index.result 0 ≡ start_of c.args.components.now (block_of c.args.components.now c.args.dof)
-start c = ap (λ (b : ℕ). get_or c.args.offsets.now b 0) c.locate-block_index.ensures ∙ total-at _ _ _ (layout (goal.at.After-locate-block_index c).In-Accepted).running (omega (arith, (held (goal.at.After-locate-block_index c).Else-dof-offsets).0))
+start c = ap (λ (b : ℕ). get_or c.args.offsets.now b 0) c.locate-block_index.ensures ∙ total-at _ _ _ (layout (goal.at.After-locate-block_index c).In_ok-check).running (omega (arith, (held (goal.at.After-locate-block_index c).Else-dof-offsets).0))
 
 from : (c : After-locate-block_index) → get_or c.args.offsets.now c.locate-block_index.result 0 ≤ c.args.dof
 from c = subst (λ (n : ℕ). n ≤ c.args.dof) (sym (start c)) (block-from _ _ _ (held (goal.at.After-locate-block_index c).Else-dof-offsets).1)
 
 pub offset_bounds-offsets-block_index : goal.offset_bounds-offsets-block_index
-offset_bounds-offsets-block_index c = omega (arith, offsets-count _ _ (layout (goal.at.offset_bounds-offsets-block_index c).In-Accepted).running, c.locate-block_index.ensures, (held (goal.at.offset_bounds-offsets-block_index c).Else-dof-offsets).0)
+offset_bounds-offsets-block_index c = omega (arith, offsets-count _ _ (layout (goal.at.offset_bounds-offsets-block_index c).In_ok-check).running, c.locate-block_index.ensures, (held (goal.at.offset_bounds-offsets-block_index c).Else-dof-offsets).0)
 
 pub bounds-offsets-block_index : goal.bounds-offsets-block_index
-bounds-offsets-block_index c = let h = held (goal.at.bounds-offsets-block_index c).Else-dof-offsets in omega (arith, offsets-count _ _ (layout (goal.at.bounds-offsets-block_index c).In-Accepted).running, c.locate-block_index.ensures, h.0)
+bounds-offsets-block_index c = let h = held (goal.at.bounds-offsets-block_index c).Else-dof-offsets in omega (arith, offsets-count _ _ (layout (goal.at.bounds-offsets-block_index c).In_ok-check).running, c.locate-block_index.ensures, h.0)
 
 pub overflow_sub-component : goal.overflow_sub-component
 overflow_sub-component c = omega (arith, from (goal.at.overflow_sub-component c).After-locate-block_index)
 
 pub overflow_cast-component : goal.overflow_cast-component
-overflow_cast-component c = omega (arith, inside (goal.at.overflow_cast-component c).Else-dof-offsets, (layout (goal.at.overflow_cast-component c).In-Accepted).blocks.short)
+overflow_cast-component c = omega (arith, inside (goal.at.overflow_cast-component c).Else-dof-offsets, (layout (goal.at.overflow_cast-component c).In_ok-check).blocks.short)
 
-pub returns-in-Refused : goal.returns-in-Refused
-returns-in-Refused c = on-refused _ _ _ Located.Refused (sym c.check-checked.ensures ∙ c.in-Refused.is)
+pub returns-in_err-check : goal.returns-in_err-check
+returns-in_err-check c = handed _ _ c.from_residual.ensures.1 ∙ on-refused _ _ _ Err (sym c.check.ensures ∙ c.in_err-check.was)
 
-pub returns-else-dof-offsets : goal.returns-else-dof-offsets
-returns-else-dof-offsets c =
+pub returns : goal.returns
+returns c =
     let s = c.args in
-    on-accepted _ _ _ _ (ok (goal.at.returns-else-dof-offsets c).In-Accepted)
-    (ap₂ (λ (b k : ℕ). Located.At (record { block_index = b; component = k })) c.locate-block_index.ensures (ap (λ (k : ℕ). s.dof - k) (start (goal.at.returns-else-dof-offsets c).After-locate-block_index))
-    ∙ sym (ap (λ (t : Bool). cond t (Located.At (address_of s.components.now s.dof)) Located.Nothing) (lt-ltb s.dof (total_of s.components.now) (inside (goal.at.returns-else-dof-offsets c).Else-dof-offsets))))
+    on-accepted _ _ _ _ (ok (goal.at.returns c).In_ok-check)
+    (ap₂ (λ (b k : ℕ). Ok (Some (record { block_index = b; component = k }))) c.locate-block_index.ensures (ap (λ (k : ℕ). s.dof - k) (start (goal.at.returns c).After-locate-block_index))
+    ∙ sym (ap (λ (t : Bool). Ok (cond t (Some (address_of s.components.now s.dof)) None)) (lt-ltb s.dof (total_of s.components.now) (inside (goal.at.returns c).Else-dof-offsets))))

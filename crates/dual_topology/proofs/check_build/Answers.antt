@@ -1,13 +1,14 @@
 -- `dual_topology::check_build` meets its contract. Assumes nothing.
 use mathlib.Core.Path.{sym, ◌∙◌}
+use Rattle.base.proofs.Checks.{handed}
 use Rattle.base.proofs.Checks.{group-pass, group-stop}
 use Rattle.dual_topology.specs.Answers.{build_check}
 use Rattle.dual_topology.proofs.check_build.Goals as goal
 
-pub returns-in-Refused : goal.returns-in-Refused
+pub returns-in_err-validate : goal.returns-in_err-validate
 unfolding build_check
-returns-in-Refused c = group-stop _ _ _ (sym c.validate.ensures ∙ c.in-Refused.is)
+returns-in_err-validate c = handed _ _ c.from_residual.ensures.1 ∙ group-stop _ _ _ (sym c.validate.ensures ∙ c.in_err-validate.was)
 
-pub returns-in-Accepted : goal.returns-in-Accepted
+pub returns : goal.returns
 unfolding build_check
-returns-in-Accepted c = group-pass _ _ _ (sym c.validate.ensures ∙ c.in-Accepted.is) c.check_room.ensures
+returns c = group-pass _ _ _ (sym c.validate.ensures ∙ c.in_ok-validate.was) c.check_room.ensures

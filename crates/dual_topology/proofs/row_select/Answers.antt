@@ -1,38 +1,39 @@
 -- `dual_topology::row_select` meets its contract. Assumes nothing.
 use mathlib.Core.Path.{sym, ap, ◌∙◌}
+use Rattle.std.specs.Prelude.{Ok}
+use Rattle.std.specs.Prelude.{Err}
+use Rattle.base.proofs.Checks.{handed}
 use mathlib.Core.Bool.{Bool}
 use Prim.Native.Nat.{ℕ}
 use Rattle.base.proofs.Checks.{on-accepted, on-refused}
 use Rattle.base.specs.Sets.{members_below}
 use Rattle.word.specs.Answers.{entry}
-use Rattle.dual_topology.specs.Answers.{column_answer_of}
-use Rattle.dual_topology.specs.declared.RowColumn.{RowColumn}
 use Rattle.dual_topology.proofs.Accepted.{accepted-topology, of-rows, of-columns, row-accepted, rows-number, columns-number}
 use Rattle.dual_topology.proofs.row_select.Goals as goal
 
 pub row_select-x-requires : goal.row_select-x-requires
 row_select-x-requires c =
-    let q = row-accepted _ _ _ (sym c.check_row.ensures ∙ c.in-Accepted.is) in
+    let q = row-accepted _ _ _ (sym c.check_row.ensures ∙ c.in_ok-check_row.was) in
     let a = accepted-topology _ _ _ _ _ _ _ _ _ _ _ _ (λ k. (c.type_inv.row_masks k).fits) (λ k. (c.type_inv.column_masks k).fits) q.0 in
     (a.topology.rows, rows-number _ _ _ _ c.in-Rows.is q.1)
 
 pub row_select-x-requires-in-Columns : goal.row_select-x-requires-in-Columns
 row_select-x-requires-in-Columns c =
-    let q = row-accepted _ _ _ (sym c.check_row.ensures ∙ c.in-Accepted.is) in
+    let q = row-accepted _ _ _ (sym c.check_row.ensures ∙ c.in_ok-check_row.was) in
     let a = accepted-topology _ _ _ _ _ _ _ _ _ _ _ _ (λ k. (c.type_inv.row_masks k).fits) (λ k. (c.type_inv.column_masks k).fits) q.0 in
     (a.topology.columns, columns-number _ _ _ _ c.in-Columns.is q.1)
 
-pub returns-in-Refused : goal.returns-in-Refused
-returns-in-Refused c = on-refused _ _ _ RowColumn.Refused (sym c.check_row.ensures ∙ c.in-Refused.is)
+pub returns-in_err-check_row : goal.returns-in_err-check_row
+returns-in_err-check_row c = handed _ _ c.from_residual.ensures.1 ∙ on-refused _ _ _ Err (sym c.check_row.ensures ∙ c.in_err-check_row.was)
 
 pub returns-in-Rows : goal.returns-in-Rows
 returns-in-Rows c =
-    let q = row-accepted _ _ _ (sym c.check_row.ensures ∙ c.in-Accepted.is) in
+    let q = row-accepted _ _ _ (sym c.check_row.ensures ∙ c.in_ok-check_row.was) in
     let a = accepted-topology _ _ _ _ _ _ _ _ _ _ _ _ (λ k. (c.type_inv.row_masks k).fits) (λ k. (c.type_inv.column_masks k).fits) q.0 in
-    on-accepted _ _ _ _ (sym c.check_row.ensures ∙ c.in-Accepted.is) (c.column_or.ensures ∙ ap column_answer_of c.row_select-x.ensures ∙ of-rows _ _ _ _ _ _ _ _ a.topology (λ (w : ℕ) (p : ℕ → Bool). column_answer_of (entry (members_below w p) c.args.ordinal)) _ _ c.in-Rows.is)
+    on-accepted _ _ _ _ (sym c.check_row.ensures ∙ c.in_ok-check_row.was) (ap Ok (c.row_select-x.ensures ∙ of-rows _ _ _ _ _ _ _ _ a.topology (λ (w : ℕ) (p : ℕ → Bool). entry (members_below w p) c.args.ordinal) _ _ c.in-Rows.is))
 
 pub returns-in-Columns : goal.returns-in-Columns
 returns-in-Columns c =
-    let q = row-accepted _ _ _ (sym c.check_row.ensures ∙ c.in-Accepted.is) in
+    let q = row-accepted _ _ _ (sym c.check_row.ensures ∙ c.in_ok-check_row.was) in
     let a = accepted-topology _ _ _ _ _ _ _ _ _ _ _ _ (λ k. (c.type_inv.row_masks k).fits) (λ k. (c.type_inv.column_masks k).fits) q.0 in
-    on-accepted _ _ _ _ (sym c.check_row.ensures ∙ c.in-Accepted.is) (c.column_or-in-Columns.ensures ∙ ap column_answer_of c.row_select-x-in-Columns.ensures ∙ of-columns _ _ _ _ _ _ _ _ a.topology (λ (w : ℕ) (p : ℕ → Bool). column_answer_of (entry (members_below w p) c.args.ordinal)) _ _ c.in-Columns.is (columns-number _ _ _ _ c.in-Columns.is q.1))
+    on-accepted _ _ _ _ (sym c.check_row.ensures ∙ c.in_ok-check_row.was) (ap Ok (c.row_select-x-in-Columns.ensures ∙ of-columns _ _ _ _ _ _ _ _ a.topology (λ (w : ℕ) (p : ℕ → Bool). entry (members_below w p) c.args.ordinal) _ _ c.in-Columns.is (columns-number _ _ _ _ c.in-Columns.is q.1)))

@@ -35,9 +35,9 @@ pub returns-then-not-never_falls : goal.returns-then-not-never_falls
 unfolding gather_check
 returns-then-not-never_falls c = pass _ _ _ _ (search checks) (pass _ _ _ _ (search checks) (pass _ _ _ _ (search (checks, not-zero)) (search checks depth 20)))
 
-pub returns-then-wide-source_indices : goal.returns-then-wide-source_indices
+pub returns-then-source_ptr-source_indices : goal.returns-then-source_ptr-source_indices
 unfolding gather_check
-returns-then-wide-source_indices c = pass _ _ _ _ (search checks) (pass _ _ _ _ (search checks) (pass _ _ _ _ (search (checks, not-zero)) (pass _ _ _ _ (search checks) (search checks depth 20))))
+returns-then-source_ptr-source_indices c = pass _ _ _ _ (search checks) (pass _ _ _ _ (search checks) (pass _ _ _ _ (search (checks, not-zero)) (pass _ _ _ _ (search checks) (search checks depth 20))))
 
 pub returns-then-not-all_below : goal.returns-then-not-all_below
 unfolding gather_check

@@ -1,5 +1,6 @@
 -- `multiplicity::check_counts` meets its contract. Assumes nothing.
 use mathlib.Core.Path.{refl, sym, ◌∙◌}
+use Rattle.base.proofs.Checks.{handed}
 use borrow.Author.Tests.{le-leb, lt-leb}
 use Rattle.base.proofs.Checks.{group-pass, group-stop, last-pass, last-stop}
 use Rattle.multiplicity.specs.Multiplicity.{multiplicity_check}
@@ -7,12 +8,12 @@ use Rattle.multiplicity.proofs.check_counts.Goals as goal
 
 pub returns-then-node_count-counts : goal.returns-then-node_count-counts
 unfolding multiplicity_check
-returns-then-node_count-counts c = group-pass _ _ _ (sym c.check_regions.ensures ∙ c.in-Accepted.is) (last-stop _ _ _ (lt-leb _ _ c.if-node_count-counts.true) c.refused.ensures)
+returns-then-node_count-counts c = group-pass _ _ _ (sym c.check_regions.ensures ∙ c.in_ok-check_regions.was) (last-stop _ _ _ (lt-leb _ _ c.if-node_count-counts.true) refl)
 
-pub returns-in-Refused : goal.returns-in-Refused
+pub returns-in_err-check_regions : goal.returns-in_err-check_regions
 unfolding multiplicity_check
-returns-in-Refused c = group-stop _ _ _ (sym c.check_regions.ensures ∙ c.in-Refused.is)
+returns-in_err-check_regions c = handed _ _ c.from_residual.ensures.1 ∙ group-stop _ _ _ (sym c.check_regions.ensures ∙ c.in_err-check_regions.was)
 
-pub returns-else-node_count-counts : goal.returns-else-node_count-counts
+pub returns : goal.returns
 unfolding multiplicity_check
-returns-else-node_count-counts c = group-pass _ _ _ (sym c.check_regions.ensures ∙ c.in-Accepted.is) (last-pass _ _ _ (le-leb _ _ c.if-node_count-counts.false) refl)
+returns c = group-pass _ _ _ (sym c.check_regions.ensures ∙ c.in_ok-check_regions.was) (last-pass _ _ _ (le-leb _ _ c.if-node_count-counts.false) refl)

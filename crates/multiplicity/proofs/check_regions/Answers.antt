@@ -1,27 +1,22 @@
 -- `multiplicity::check_regions` meets its contract. Assumes nothing.
 use mathlib.Core.Path.{◌≡◌, refl, sym, ap, ◌∙◌}
+use Rattle.std.specs.Prelude.{Err}
+use Rattle.base.specs.declared.Refusal.TheVariants.{WrongLength}
 use Prim.Native.Nat.{ℕ, ◌*◌}
-use native.Mathlib.Omega.{arith}
 use borrow.Author.Tests.{le-leb, lt-leb, eq-eqb, ne_eqb}
 use lib.ListN.{length}
-use Rattle.base.specs.Checks.{refusal_of_length}
-use Rattle.base.specs.declared.Checked.{Checked}
 use Rattle.base.proofs.Checks.{pass, stop, length-pass, length-stop, last-pass, last-stop}
 use Rattle.mask.specs.Mask.{words_needed}
 use Rattle.multiplicity.specs.Multiplicity.{regions_check}
-use Rattle.multiplicity.proofs.Regions.{part-few}
 use Rattle.multiplicity.proofs.check_regions.Goals as goal
 
 pub returns-then-node_count-gt-SIDE_LIMIT : goal.returns-then-node_count-gt-SIDE_LIMIT
 unfolding regions_check
-returns-then-node_count-gt-SIDE_LIMIT c = stop _ _ _ _ (lt-leb _ _ c.if-node_count-gt-SIDE_LIMIT.true) c.refused.ensures
+returns-then-node_count-gt-SIDE_LIMIT c = stop _ _ _ _ (lt-leb _ _ c.if-node_count-gt-SIDE_LIMIT.true) refl
 
 pub returns-then-region_count-gt-REGION_LIMIT : goal.returns-then-region_count-gt-REGION_LIMIT
 unfolding regions_check
-returns-then-region_count-gt-REGION_LIMIT c = pass _ _ _ _ (le-leb _ _ c.if-node_count-gt-SIDE_LIMIT.false) (stop _ _ _ _ (lt-leb _ _ c.if-region_count-gt-REGION_LIMIT.true) c.refused-then-region_count-gt-REGION_LIMIT.ensures)
-
-pub overflow_mul-need : goal.overflow_mul-need
-overflow_mul-need c = omega (arith, part-few c.args.region_count c.words_for.result c.if-region_count-gt-REGION_LIMIT.false (omega (arith, c.words_for.ensures, c.if-node_count-gt-SIDE_LIMIT.false)))
+returns-then-region_count-gt-REGION_LIMIT c = pass _ _ _ _ (le-leb _ _ c.if-node_count-gt-SIDE_LIMIT.false) (stop _ _ _ _ (lt-leb _ _ c.if-region_count-gt-REGION_LIMIT.true) refl)
 
 pub returns-then-words-need : goal.returns-then-words-need
 unfolding regions_check
@@ -29,17 +24,14 @@ returns-then-words-need c =
     let e : c.args.region_count * c.words_for.result ≡ c.args.region_count * words_needed c.args.node_count = ap (λ (w : ℕ). c.args.region_count * w) c.words_for.ensures in
     pass _ _ _ _ (le-leb _ _ c.if-node_count-gt-SIDE_LIMIT.false)
     (pass _ _ _ _ (le-leb _ _ c.if-region_count-gt-REGION_LIMIT.false)
-    (length-stop _ _ _ _ (ne_eqb _ _ (λ d. c.if-words-need.true (d ∙ sym e))) (c.wrong_length.ensures ∙ ap (λ (n : ℕ). Checked.Refused (refusal_of_length n (length c.args.words.now))) e)))
-
-pub all_clean-requires : goal.all_clean-requires
-all_clean-requires c = (c.if-node_count-gt-SIDE_LIMIT.false, c.if-region_count-gt-REGION_LIMIT.false, c.if-words-need.false ∙ ap (λ (w : ℕ). c.args.region_count * w) c.words_for.ensures)
+    (length-stop _ _ _ _ (ne_eqb _ _ (λ d. c.if-words-need.true (d ∙ sym e))) ((ap Err c.wrong_length.ensures) ∙ ap (λ (n : ℕ). Err (WrongLength n (length c.args.words.now))) e)))
 
 pub returns-then-not-all_clean : goal.returns-then-not-all_clean
 unfolding regions_check
 returns-then-not-all_clean c =
     let e = c.if-words-need.false ∙ ap (λ (w : ℕ). c.args.region_count * w) c.words_for.ensures in
     pass _ _ _ _ (le-leb _ _ c.if-node_count-gt-SIDE_LIMIT.false)
-    (pass _ _ _ _ (le-leb _ _ c.if-region_count-gt-REGION_LIMIT.false) (length-pass _ _ _ _ (eq-eqb _ _ e) (last-stop _ _ _ ((sym c.all_clean.ensures ∙ c.if-not-all_clean.true)) c.refused-then-not-all_clean.ensures)))
+    (pass _ _ _ _ (le-leb _ _ c.if-region_count-gt-REGION_LIMIT.false) (length-pass _ _ _ _ (eq-eqb _ _ e) (last-stop _ _ _ ((sym c.all_clean.ensures ∙ c.if-not-all_clean.true)) refl)))
 
 pub returns : goal.returns
 unfolding regions_check

@@ -1,67 +1,68 @@
 -- `prepared_field_region::prepare_region` meets its contract. Assumes nothing.
 use mathlib.Core.Path.{◌≡◌, sym, ap, ◌∙◌}
+use Rattle.std.specs.Prelude.{Ok, Err}
+use Rattle.base.specs.Checks.{Check}
+use Rattle.base.proofs.Checks.{handed}
 use native.Mathlib.Omega.{arith}
 use lib.ListN.{length}
-use Rattle.base.specs.declared.Checked.{Checked}
 use Rattle.base.proofs.Checks.{on-accepted, on-refused, kept, group-pass, group-stop}
 use Rattle.csr32.specs.Matrix.{matrix_check}
 use Rattle.dof_layout.specs.Answers.{square_check}
 use Rattle.prepared_field_region.specs.Prepared.{prepare_room, prepare_inputs, prepare_check}
 use Rattle.cutting.specs.Steps.{Inputs}
-use Rattle.prepared_field_region.specs.declared.RegionPrepared.{RegionPrepared}
 use Rattle.prepared_field_region.proofs.Accepted.{accepted-inputs, accepted-room}
-use Rattle.prepared_field_region.proofs.prepare_region.Goals.{In-Accepted, In-Accepted-check_room, Start}
+use Rattle.prepared_field_region.proofs.prepare_region.Goals.{In_ok-check_inputs, In_ok-check_room, Start}
 use Rattle.prepared_field_region.proofs.prepare_region.Goals as goal
 
 -- the checks, and all but 25
-abbrev inputs : Start → Checked
+abbrev inputs : Start → Check
 inputs s = prepare_inputs (matrix_check s.args.nrows s.args.ncols s.args.row_ptr.now s.args.col_idx.now s.args.values.now) (square_check s.args.entity_kinds.now s.args.entity_ids.now s.args.field_ids.now s.args.components.now s.args.offsets.now s.args.nrows s.args.ncols) s.args.nrows s.args.len s.args.words.now
 
-abbrev room : Start → Checked
+abbrev room : Start → Check
 room s = prepare_room s.args.nrows s.args.ncols (length s.args.col_idx.now) (length s.args.row_word_ptr.now) (length s.args.row_word_indices.now) (length s.args.row_masks.now) (length s.args.column_word_ptr.now) (length s.args.column_word_indices.now) (length s.args.column_masks.now) (length s.args.starts.now) (length s.args.order.now) (length s.args.region.now) (length s.args.frontier.now) (length s.args.scratch.now) (length s.args.global_nodes.now) (length s.args.local_row_ptr.now) (length s.args.local_col_idx.now) (length s.args.source_ptr.now) (length s.args.source_indices.now)
 
-abbrev whole : Start → Checked
+abbrev whole : Start → Check
 whole s = prepare_check (inputs s) (room s)
 
 -- in this arm the inputs are accepted
-module _ (c : In-Accepted) where
+module _ (c : In_ok-check_inputs) where
   abbrev s : Start
-  s = (goal.at.In-Accepted c).Start
+  s = (goal.at.In_ok-check_inputs c).Start
 
-  passes : inputs s ≡ Checked.Accepted
-  passes = sym c.check_inputs.ensures ∙ c.in-Accepted.is
+  passes : inputs s ≡ Ok tt
+  passes = sym c.check_inputs.ensures ∙ c.in_ok-check_inputs.was
 
   good : Inputs s.args.nrows s.args.row_ptr.now s.args.col_idx.now s.args.components.now s.args.offsets.now s.args.words.now × (s.args.ncols ≡ s.args.nrows)
   good = accepted-inputs s.args.nrows s.args.ncols s.args.row_ptr.now s.args.col_idx.now s.args.values.now s.args.entity_kinds.now s.args.entity_ids.now s.args.field_ids.now s.args.components.now s.args.offsets.now s.args.len s.args.words.now (λ k. omega (arith, c.type_inv.words k)) passes
 
 -- and here the lists reach their needed lengths
-module _ (c : In-Accepted-check_room) where
+module _ (c : In_ok-check_room) where
   abbrev s2 : Start
-  s2 = (goal.at.In-Accepted-check_room c).Start
+  s2 = (goal.at.In_ok-check_room c).Start
 
-  enough : room s2 ≡ Checked.Accepted
-  enough = sym c.check_room.ensures ∙ c.in-Accepted-check_room.is
+  enough : room s2 ≡ Ok tt
+  enough = sym c.check_room.ensures ∙ c.in_ok-check_room.was
 
-  all : whole s2 ≡ Checked.Accepted
+  all : whole s2 ≡ Ok tt
   unfolding prepare_check
-  all = sym (group-pass _ _ _ (passes (goal.at.In-Accepted-check_room c).In-Accepted) (sym enough))
+  all = sym (group-pass _ _ _ (passes (goal.at.In_ok-check_room c).In_ok-check_inputs) (sym enough))
 
 pub check_room-requires : goal.check_room-requires
-check_room-requires c = (good ((goal.at.check_room-requires c).In-Accepted)).0.matrix.few_rows
+check_room-requires c = (good ((goal.at.check_room-requires c).In_ok-check_inputs)).0.matrix.few_rows
 
 pub prepare-requires : goal.prepare-requires
 prepare-requires c =
-    let p = accepted-room c.args.nrows c.args.ncols (length c.args.col_idx.now) c.args.row_word_ptr.now c.args.row_word_indices.now c.args.row_masks.now c.args.column_word_ptr.now c.args.column_word_indices.now c.args.column_masks.now c.args.starts.now c.args.order.now c.args.region.now c.args.frontier.now c.args.scratch.now c.args.global_nodes.now c.args.local_row_ptr.now c.args.local_col_idx.now c.args.source_ptr.now c.args.source_indices.now (enough (goal.at.prepare-requires c).In-Accepted-check_room) in record {
-      inputs = good (goal.at.prepare-requires c).In-Accepted;
+    let p = accepted-room c.args.nrows c.args.ncols (length c.args.col_idx.now) c.args.row_word_ptr.now c.args.row_word_indices.now c.args.row_masks.now c.args.column_word_ptr.now c.args.column_word_indices.now c.args.column_masks.now c.args.starts.now c.args.order.now c.args.region.now c.args.frontier.now c.args.scratch.now c.args.global_nodes.now c.args.local_row_ptr.now c.args.local_col_idx.now c.args.source_ptr.now c.args.source_indices.now (enough (goal.at.prepare-requires c).In_ok-check_room) in record {
+      inputs = good (goal.at.prepare-requires c).In_ok-check_inputs;
       building = p.0;
       room = p.1;
     }
 
-pub returns-in-Refused : goal.returns-in-Refused
+pub returns-in_err-check_inputs : goal.returns-in_err-check_inputs
 unfolding prepare_check
-returns-in-Refused c =
-    let e : whole (goal.at.returns-in-Refused c).Start ≡ Checked.Refused _ = sym (group-stop _ (room (goal.at.returns-in-Refused c).Start) _ (sym c.check_inputs.ensures ∙ c.in-Refused.is)) in record {
-      value = on-refused _ _ _ RegionPrepared.Refused e;
+returns-in_err-check_inputs c =
+    let e : whole (goal.at.returns-in_err-check_inputs c).Start ≡ Err _ = sym (group-stop _ (room (goal.at.returns-in_err-check_inputs c).Start) _ (sym c.check_inputs.ensures ∙ c.in_err-check_inputs.was)) in record {
+      value = handed _ _ c.from_residual.ensures.1 ∙ on-refused _ _ _ Err e;
       row_pointers = kept _ _ _ _ e;
       row_words = kept _ _ _ _ e;
       row_masked = kept _ _ _ _ e;
@@ -80,12 +81,12 @@ returns-in-Refused c =
       sources = kept _ _ _ _ e;
     }
 
-pub returns-in-Refused-check_room : goal.returns-in-Refused-check_room
+pub returns-in_err-check_room : goal.returns-in_err-check_room
 unfolding prepare_check
-returns-in-Refused-check_room c =
-    let no_room : room (goal.at.returns-in-Refused-check_room c).Start ≡ Checked.Refused _ = sym c.check_room.ensures ∙ c.in-Refused-check_room.is in
-    let e : whole (goal.at.returns-in-Refused-check_room c).Start ≡ Checked.Refused _ = sym (group-pass _ _ _ (passes (goal.at.returns-in-Refused-check_room c).In-Accepted) (sym no_room)) in record {
-      value = on-refused _ _ _ RegionPrepared.Refused e;
+returns-in_err-check_room c =
+    let no_room : room (goal.at.returns-in_err-check_room c).Start ≡ Err _ = sym c.check_room.ensures ∙ c.in_err-check_room.was in
+    let e : whole (goal.at.returns-in_err-check_room c).Start ≡ Err _ = sym (group-pass _ _ _ (passes (goal.at.returns-in_err-check_room c).In_ok-check_inputs) (sym no_room)) in record {
+      value = handed _ _ c.from_residual-in_err-check_room.ensures.1 ∙ on-refused _ _ _ Err e;
       row_pointers = kept _ _ _ _ e;
       row_words = kept _ _ _ _ e;
       row_masked = kept _ _ _ _ e;
@@ -152,11 +153,11 @@ shape_of-source_ptr c = c.prepare.auto.source_ptr
 pub shape_of-source_indices : goal.shape_of-source_indices
 shape_of-source_indices c = c.prepare.auto.source_indices
 
-pub returns-in-Accepted-check_room : goal.returns-in-Accepted-check_room
-returns-in-Accepted-check_room c =
-    let e = all (goal.at.returns-in-Accepted-check_room c).In-Accepted-check_room in
+pub returns : goal.returns
+returns c =
+    let e = all (goal.at.returns c).In_ok-check_room in
     let w = c.prepare.ensures in record {
-      value = on-accepted _ _ _ _ e (ap RegionPrepared.Prepared w.value);
+      value = on-accepted _ _ _ _ e (ap Ok w.value);
       row_pointers = on-accepted _ _ _ _ e w.row_pointers;
       row_words = on-accepted _ _ _ _ e w.row_words;
       row_masked = on-accepted _ _ _ _ e w.row_masked;

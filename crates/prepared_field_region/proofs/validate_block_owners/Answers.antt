@@ -1,7 +1,8 @@
 -- `prepared_field_region::validate_block_owners` meets its contract. Assumes nothing.
 use mathlib.Core.Path.{◌≡◌, refl, sym, ◌∙◌}
-use Rattle.base.specs.declared.Checked.{Checked}
-use Rattle.base.specs.declared.Counted.{Counted}
+use Rattle.base.proofs.Checks.{handed}
+use Rattle.std.specs.Prelude.{Ok, Err}
+use Rattle.base.specs.Checks.{Check}
 use Rattle.base.proofs.Checks.{on-accepted, on-refused, kept}
 use Rattle.csr32.specs.Matrix.{matrix_check}
 use Rattle.dof_layout.specs.Answers.{square_check}
@@ -9,10 +10,10 @@ use Rattle.dof_layout.proofs.Layouts.{none-empty}
 use Rattle.field_region.specs.Owners.{owners_check}
 use Rattle.prepared_field_region.specs.Prepared.{block_owners_check}
 use Rattle.prepared_field_region.proofs.Accepted.{accepted-block-owners}
-use Rattle.prepared_field_region.proofs.validate_block_owners.Goals.{After-check_owners, In-Accepted, Start}
+use Rattle.prepared_field_region.proofs.validate_block_owners.Goals.{After-check_owners, In_ok-check_owners, Start}
 use Rattle.prepared_field_region.proofs.validate_block_owners.Goals as goal
 
-abbrev check : Start → Checked
+abbrev check : Start → Check
 check s = block_owners_check (matrix_check s.args.nrows s.args.ncols s.args.row_ptr.now s.args.col_idx.now s.args.values.now) (square_check s.args.entity_kinds.now s.args.entity_ids.now s.args.field_ids.now s.args.components.now s.args.offsets.now s.args.nrows s.args.ncols) (owners_check s.args.entity_kinds.now s.args.entity_ids.now s.args.field_ids.now s.args.components.now s.args.offsets.now s.args.dof_owners.now s.args.ranks s.args.out.now)
 
 -- what the check of the owners past the layout says
@@ -21,23 +22,23 @@ unfolding owners_check
 told c = sym c.check_owners.ensures
 
 -- in this arm the checks accept
-ok : (c : In-Accepted) → check (goal.at.In-Accepted c).Start ≡ Checked.Accepted
-ok c = told (goal.at.In-Accepted c).After-check_owners ∙ c.in-Accepted.is
+ok : (c : In_ok-check_owners) → check (goal.at.In_ok-check_owners c).Start ≡ Ok tt
+ok c = told (goal.at.In_ok-check_owners c).After-check_owners ∙ c.in_ok-check_owners.was
 
 pub write_owners-requires : goal.write_owners-requires
 write_owners-requires c =
-    let a = accepted-block-owners _ _ _ _ _ _ _ _ _ _ (ok (goal.at.write_owners-requires c).In-Accepted) in
+    let a = accepted-block-owners _ _ _ _ _ _ _ _ _ _ (ok (goal.at.write_owners-requires c).In_ok-check_owners) in
     (a.0.running, a.0.blocks.short, none-empty _ _ _ _ a.0.blocks, a.1, a.2)
 
-pub returns-in-Refused : goal.returns-in-Refused
-returns-in-Refused c =
-    let e = told (goal.at.returns-in-Refused c).After-check_owners ∙ c.in-Refused.is in record {
-      value = on-refused _ _ _ Counted.Refused e;
+pub returns-in_err-check_owners : goal.returns-in_err-check_owners
+returns-in_err-check_owners c =
+    let e = told (goal.at.returns-in_err-check_owners c).After-check_owners ∙ c.in_err-check_owners.was in record {
+      value = handed _ _ c.from_residual.ensures.1 ∙ on-refused _ _ _ Err e;
       owned = kept _ _ _ _ e;
     }
 
-pub returns-in-Accepted : goal.returns-in-Accepted
-returns-in-Accepted c = record {
-  value = on-accepted _ _ _ _ (ok (goal.at.returns-in-Accepted c).In-Accepted) refl;
-  owned = on-accepted _ _ _ _ (ok (goal.at.returns-in-Accepted c).In-Accepted) c.write_owners.ensures;
+pub returns : goal.returns
+returns c = record {
+  value = on-accepted _ _ _ _ (ok (goal.at.returns c).In_ok-check_owners) refl;
+  owned = on-accepted _ _ _ _ (ok (goal.at.returns c).In_ok-check_owners) c.write_owners.ensures;
 }

@@ -1,11 +1,11 @@
 -- `repeated::hybit_repeated_closing` meets its contract: the list that the checked closing left is written again with the same. Assumes nothing.
 use mathlib.Core.Path.{◌≡◌, sym, ap, ◌∙◌}
-use mathlib.Core.List.{List, ◌++◌}
+use Rattle.std.specs.Prelude.{Ok, Err}
+use mathlib.Core.List.{List}
 use Prim.Native.Nat.{ℕ, ◌≤◌}
 use native.Mathlib.Omega.{arith}
-use lib.ListN.{length, drop, take, take-append-drop}
+use lib.ListN.{length, drop, take}
 use lib.Seq.{length-take-le, take_at}
-use Rattle.base.specs.declared.Checked.{Checked}
 use Rattle.mask.specs.Mask.{in_mask, words_needed, IsMask}
 use Rattle.mask.proofs.Masks.{mask-length}
 use Rattle.dof_layout.specs.Layout.{total_of, block_of, IsLayout}
@@ -15,16 +15,16 @@ use Rattle.field_region.proofs.Closing.{accepted-close}
 use Rattle.repeated.specs.Repeated.{count_answer}
 use Rattle.repeated.proofs.Repeating.{left_is, again-room}
 use Rattle.repeated.proofs.Rewriting.{close-accepted}
-use Rattle.repeated.proofs.hybit_repeated_closing.Goals.{After-words_for-need, In-Count, Start}
+use Rattle.repeated.proofs.hybit_repeated_closing.Goals.{After-words_for-need, In-Ok, Start}
 use Rattle.repeated.proofs.hybit_repeated_closing.Goals as goal
 
 -- in this arm the checks accepted
-module _ (c : In-Count) where
+module _ (c : In-Ok) where
   abbrev s : Start
-  s = (goal.at.In-Count c).Start
+  s = (goal.at.In-Ok c).Start
 
-  ok : close_check s.args.entity_kinds.now s.args.entity_ids.now s.args.field_ids.now s.args.components.now s.args.offsets.now s.args.len s.args.words.now s.args.out.now ≡ Checked.Accepted
-  ok = close-accepted _ s.args.len _ (sym c.close_to_field_blocks.ensures.value ∙ c.in-Count.is)
+  ok : close_check s.args.entity_kinds.now s.args.entity_ids.now s.args.field_ids.now s.args.components.now s.args.offsets.now s.args.len s.args.words.now s.args.out.now ≡ Ok tt
+  ok = close-accepted _ s.args.len _ (sym c.close_to_field_blocks.ensures.value ∙ c.in-Ok.is)
 
   good : IsLayout s.args.entity_kinds.now s.args.entity_ids.now s.args.field_ids.now s.args.components.now s.args.offsets.now × (s.args.len ≡ total_of s.args.components.now) × IsMask (total_of s.args.components.now) s.args.words.now × (words_needed (total_of s.args.components.now) ≤ length s.args.out.now)
   good = accepted-close _ _ _ _ _ _ _ _ (λ w. omega (arith, c.type_inv.words w)) ok
@@ -42,42 +42,32 @@ module _ (c : After-words_for-need) where
   left = c.close_to_field_blocks.new.out
 
   long : c.words_for-need.result ≡ length answer
-  long = c.words_for-need.ensures ∙ ap words_needed (good (goal.at.After-words_for-need c).In-Count).1 ∙ sym (mask-length (total_of t.args.components.now) (closed (total_of t.args.components.now) (block_of t.args.components.now) (in_mask t.args.words.now)))
+  long = c.words_for-need.ensures ∙ ap words_needed (good (goal.at.After-words_for-need c).In-Ok).1 ∙ sym (mask-length (total_of t.args.components.now) (closed (total_of t.args.components.now) (block_of t.args.components.now) (in_mask t.args.words.now)))
 
   room : c.words_for-need.result ≤ length left
-  room = again-room answer t.args.out.now _ _ (left_is _ _ _ _ (ok (goal.at.After-words_for-need c).In-Count) c.close_to_field_blocks.ensures.out_after) long
+  room = again-room answer t.args.out.now _ _ (left_is _ _ _ _ (ok (goal.at.After-words_for-need c).In-Ok) c.close_to_field_blocks.ensures.out_after) long
 
   held : take c.words_for-need.result left ≡ answer
   held =
-      ap (take c.words_for-need.result) (left_is _ _ _ _ (ok (goal.at.After-words_for-need c).In-Count) c.close_to_field_blocks.ensures.out_after)
+      ap (take c.words_for-need.result) (left_is _ _ _ _ (ok (goal.at.After-words_for-need c).In-Ok) c.close_to_field_blocks.ensures.out_after)
       ∙ take_at answer (drop (length answer) t.args.out.now) c.words_for-need.result (sym long)
 
 pub words_for-need-requires : goal.words_for-need-requires
-words_for-need-requires c = omega (arith, (good (goal.at.words_for-need-requires c).In-Count).1, (good (goal.at.words_for-need-requires c).In-Count).0.blocks.short)
+words_for-need-requires c = omega (arith, (good (goal.at.words_for-need-requires c).In-Ok).1, (good (goal.at.words_for-need-requires c).In-Ok).0.blocks.short)
 
 pub slice_bounds-repeat_closing-end : goal.slice_bounds-repeat_closing-end
 slice_bounds-repeat_closing-end c = room (goal.at.slice_bounds-repeat_closing-end c).After-words_for-need
 
-pub slice_bounds-repeat_closing-end-in-Count : goal.slice_bounds-repeat_closing-end-in-Count
-slice_bounds-repeat_closing-end-in-Count c = sym (length-take-le _ _ (room (goal.at.slice_bounds-repeat_closing-end-in-Count c).After-words_for-need))
+pub slice_bounds-repeat_closing-end-in-Ok : goal.slice_bounds-repeat_closing-end-in-Ok
+slice_bounds-repeat_closing-end-in-Ok c = sym (length-take-le _ _ (room (goal.at.slice_bounds-repeat_closing-end-in-Ok c).After-words_for-need))
 
 pub repeat_closing-requires : goal.repeat_closing-requires
-repeat_closing-requires c = let g = good (goal.at.repeat_closing-requires c).In-Count in (g.0.running, g.0.blocks.short, g.2, held (goal.at.repeat_closing-requires c).After-words_for-need)
+repeat_closing-requires c = let g = good (goal.at.repeat_closing-requires c).In-Ok in (g.0.running, g.0.blocks.short, g.2, held (goal.at.repeat_closing-requires c).After-words_for-need)
 
-pub returns-in-Refused : goal.returns-in-Refused
+pub returns-in-Err-clause-value : goal.returns-in-Err-clause-value
 unfolding count_answer
-returns-in-Refused c =
-    let u = c.close_to_field_blocks.ensures in record {
-      value = ap count_answer (sym c.in-Refused.is ∙ u.value);
-      out_after = u.out_after;
-    }
+returns-in-Err-clause-value c = c.refused.ensures ∙ ap count_answer (sym c.in-Err.is ∙ c.close_to_field_blocks.ensures.value)
 
-pub returns-in-Count : goal.returns-in-Count
+pub returns-in-Ok-clause-value : goal.returns-in-Ok-clause-value
 unfolding count_answer
-returns-in-Count c =
-    let u = c.close_to_field_blocks.ensures in
-    let need = c.words_for-need.result in
-    let l = left (goal.at.returns-in-Count c).After-words_for-need in record {
-      value = ap count_answer (sym c.in-Count.is ∙ u.value);
-      out_after = ap (λ (p : List ℕ). p ++ drop need l) c.repeat_closing.ensures ∙ take-append-drop need l ∙ u.out_after;
-    }
+returns-in-Ok-clause-value c = c.answered.ensures ∙ ap count_answer (sym c.in-Ok.is ∙ c.close_to_field_blocks.ensures.value)

@@ -1,11 +1,11 @@
 -- `repeated::hybit_repeated_field_growth` meets its contract: the lists that the checked growth left are written again with the same. Assumes nothing.
 use mathlib.Core.Path.{◌≡◌, sym, ap, ◌∙◌}
+use Rattle.std.specs.Prelude.{Ok, Err}
 use mathlib.Core.List.{List}
 use Prim.Native.Nat.{ℕ, ◌≤◌}
 use native.Mathlib.Omega.{arith}
 use lib.ListN.{length, replicate, length-replicate}
 use lib.Seq.{length-take-le}
-use Rattle.base.specs.declared.Checked.{Checked}
 use Rattle.base.proofs.Checks.{on-accepted}
 use Rattle.mask.specs.Mask.{words_needed}
 use Rattle.dof_layout.specs.Layout.{total_of}
@@ -17,17 +17,17 @@ use Rattle.growth.proofs.Lent.{region-length, frontier-length, scratch-zero}
 use Rattle.field_region.specs.Growth.{field_grow_check}
 use Rattle.field_region.proofs.Accepted.{Accepts, accepted-growth}
 use Rattle.repeated.specs.Repeated.{field_hops_answer}
-use Rattle.repeated.proofs.Repeating.{left_is, again-room, again-left, again-long, field-accepted, field-hops-told}
-use Rattle.repeated.proofs.hybit_repeated_field_growth.Goals.{After-words_for-need, In-Grown, Start}
+use Rattle.repeated.proofs.Repeating.{left_is, again-room, again-left, field-accepted, field-hops-told}
+use Rattle.repeated.proofs.hybit_repeated_field_growth.Goals.{After-words_for-need, In-Ok, Start}
 use Rattle.repeated.proofs.hybit_repeated_field_growth.Goals as goal
 
 -- in this arm the checks accepted
-module _ (c : In-Grown) where
+module _ (c : In-Ok) where
   abbrev s : Start
-  s = (goal.at.In-Grown c).Start
+  s = (goal.at.In-Ok c).Start
 
-  ok : field_grow_check (topology_check s.args.nrows s.args.ncols s.args.row_word_ptr.now s.args.row_word_indices.now s.args.row_masks.now s.args.structural_nnz s.args.column_nrows s.args.column_ncols s.args.column_word_ptr.now s.args.column_word_indices.now s.args.column_masks.now s.args.column_structural_nnz) (square_check s.args.entity_kinds.now s.args.entity_ids.now s.args.field_ids.now s.args.components.now s.args.offsets.now s.args.nrows s.args.ncols) (total_of s.args.components.now) s.args.len s.args.words.now s.args.region.now s.args.frontier.now s.args.scratch.now ≡ Checked.Accepted
-  ok = field-accepted _ (field_network s.args.components.now (side_holds s.args.row_word_ptr.now s.args.row_word_indices.now s.args.row_masks.now)) s.args.words.now s.args.hops _ (sym c.grow_field_aware_region.ensures.value ∙ c.in-Grown.is)
+  ok : field_grow_check (topology_check s.args.nrows s.args.ncols s.args.row_word_ptr.now s.args.row_word_indices.now s.args.row_masks.now s.args.structural_nnz s.args.column_nrows s.args.column_ncols s.args.column_word_ptr.now s.args.column_word_indices.now s.args.column_masks.now s.args.column_structural_nnz) (square_check s.args.entity_kinds.now s.args.entity_ids.now s.args.field_ids.now s.args.components.now s.args.offsets.now s.args.nrows s.args.ncols) (total_of s.args.components.now) s.args.len s.args.words.now s.args.region.now s.args.frontier.now s.args.scratch.now ≡ Ok tt
+  ok = field-accepted _ (field_network s.args.components.now (side_holds s.args.row_word_ptr.now s.args.row_word_indices.now s.args.row_masks.now)) s.args.words.now s.args.hops _ (sym c.grow_field_aware_region.ensures.value ∙ c.in-Ok.is)
 
   good : Accepts s.args.nrows s.args.entity_kinds.now s.args.entity_ids.now s.args.field_ids.now s.args.components.now s.args.offsets.now s.args.row_word_ptr.now s.args.row_word_indices.now s.args.row_masks.now s.args.column_word_ptr.now s.args.column_word_indices.now s.args.column_masks.now s.args.words.now (length s.args.region.now) (length s.args.frontier.now) (length s.args.scratch.now)
   good = accepted-growth s.args.nrows s.args.ncols s.args.row_word_ptr.now s.args.row_word_indices.now s.args.row_masks.now s.args.structural_nnz s.args.column_nrows s.args.column_ncols s.args.column_word_ptr.now s.args.column_word_indices.now s.args.column_masks.now s.args.column_structural_nnz s.args.entity_kinds.now s.args.entity_ids.now s.args.field_ids.now s.args.components.now s.args.offsets.now s.args.len s.args.words.now s.args.region.now s.args.frontier.now s.args.scratch.now (λ k. omega (arith, c.type_inv.row_masks k)) (λ k. omega (arith, c.type_inv.column_masks k)) (λ k. omega (arith, c.type_inv.words k)) ok
@@ -41,7 +41,7 @@ module _ (c : After-words_for-need) where
   g = field_network t.args.components.now (side_holds t.args.row_word_ptr.now t.args.row_word_indices.now t.args.row_masks.now)
 
   needed : c.words_for-need.result ≡ words_needed (total_of t.args.components.now)
-  needed = c.words_for-need.ensures ∙ ap words_needed (good (goal.at.After-words_for-need c).In-Grown).side
+  needed = c.words_for-need.ensures ∙ ap words_needed (good (goal.at.After-words_for-need c).In-Ok).side
 
   abbrev inside : List ℕ
   inside = region_words g t.args.words.now t.args.hops
@@ -61,81 +61,53 @@ module _ (c : After-words_for-need) where
   zeros-long : c.words_for-need.result ≡ length zeros
   zeros-long = needed ∙ sym (length-replicate _ _)
 
-  fits-region : c.words_for-need.result ≤ length t.args.region.now
-  fits-region = omega (arith, needed, (good (goal.at.After-words_for-need c).In-Grown).region_room)
-
-  fits-frontier : c.words_for-need.result ≤ length t.args.frontier.now
-  fits-frontier = omega (arith, needed, (good (goal.at.After-words_for-need c).In-Grown).frontier_room)
-
-  fits-scratch : c.words_for-need.result ≤ length t.args.scratch.now
-  fits-scratch = omega (arith, needed, (good (goal.at.After-words_for-need c).In-Grown).scratch_room)
-
   room-region : c.words_for-need.result ≤ length c.grow_field_aware_region.new.region
-  room-region = again-room inside t.args.region.now _ _ (left_is _ _ _ _ (ok (goal.at.After-words_for-need c).In-Grown) c.grow_field_aware_region.ensures.inside) inside-long
+  room-region = again-room inside t.args.region.now _ _ (left_is _ _ _ _ (ok (goal.at.After-words_for-need c).In-Ok) c.grow_field_aware_region.ensures.inside) inside-long
 
   room-frontier : c.words_for-need.result ≤ length c.grow_field_aware_region.new.frontier
-  room-frontier = again-room edge t.args.frontier.now _ _ (left_is _ _ _ _ (ok (goal.at.After-words_for-need c).In-Grown) c.grow_field_aware_region.ensures.edge) edge-long
+  room-frontier = again-room edge t.args.frontier.now _ _ (left_is _ _ _ _ (ok (goal.at.After-words_for-need c).In-Ok) c.grow_field_aware_region.ensures.edge) edge-long
 
   room-scratch : c.words_for-need.result ≤ length c.grow_field_aware_region.new.scratch
-  room-scratch = again-room zeros t.args.scratch.now _ _ (left_is _ _ _ _ (ok (goal.at.After-words_for-need c).In-Grown) c.grow_field_aware_region.ensures.spent) zeros-long
+  room-scratch = again-room zeros t.args.scratch.now _ _ (left_is _ _ _ _ (ok (goal.at.After-words_for-need c).In-Ok) c.grow_field_aware_region.ensures.spent) zeros-long
 
 pub words_for-need-requires : goal.words_for-need-requires
-words_for-need-requires c = omega (arith, (good (goal.at.words_for-need-requires c).In-Grown).side, (good (goal.at.words_for-need-requires c).In-Grown).layout.blocks.short)
+words_for-need-requires c = omega (arith, (good (goal.at.words_for-need-requires c).In-Ok).side, (good (goal.at.words_for-need-requires c).In-Ok).layout.blocks.short)
 
 pub slice_bounds-repeat_blocks-end : goal.slice_bounds-repeat_blocks-end
 slice_bounds-repeat_blocks-end c = room-region (goal.at.slice_bounds-repeat_blocks-end c).After-words_for-need
 
-pub slice_bounds-repeat_blocks-end-in-Grown : goal.slice_bounds-repeat_blocks-end-in-Grown
-slice_bounds-repeat_blocks-end-in-Grown c = sym (length-take-le _ _ (room-region (goal.at.slice_bounds-repeat_blocks-end-in-Grown c).After-words_for-need))
+pub slice_bounds-repeat_blocks-end-in-Ok : goal.slice_bounds-repeat_blocks-end-in-Ok
+slice_bounds-repeat_blocks-end-in-Ok c = sym (length-take-le _ _ (room-region (goal.at.slice_bounds-repeat_blocks-end-in-Ok c).After-words_for-need))
 
-pub slice_bounds-repeat_blocks-end-in-Grown-2 : goal.slice_bounds-repeat_blocks-end-in-Grown-2
-slice_bounds-repeat_blocks-end-in-Grown-2 c = room-frontier (goal.at.slice_bounds-repeat_blocks-end-in-Grown-2 c).After-words_for-need
+pub slice_bounds-repeat_blocks-end-in-Ok-2 : goal.slice_bounds-repeat_blocks-end-in-Ok-2
+slice_bounds-repeat_blocks-end-in-Ok-2 c = room-frontier (goal.at.slice_bounds-repeat_blocks-end-in-Ok-2 c).After-words_for-need
 
-pub slice_bounds-repeat_blocks-end-in-Grown-3 : goal.slice_bounds-repeat_blocks-end-in-Grown-3
-slice_bounds-repeat_blocks-end-in-Grown-3 c = sym (length-take-le _ _ (room-frontier (goal.at.slice_bounds-repeat_blocks-end-in-Grown-3 c).After-words_for-need))
+pub slice_bounds-repeat_blocks-end-in-Ok-3 : goal.slice_bounds-repeat_blocks-end-in-Ok-3
+slice_bounds-repeat_blocks-end-in-Ok-3 c = sym (length-take-le _ _ (room-frontier (goal.at.slice_bounds-repeat_blocks-end-in-Ok-3 c).After-words_for-need))
 
-pub slice_bounds-repeat_blocks-end-in-Grown-4 : goal.slice_bounds-repeat_blocks-end-in-Grown-4
-slice_bounds-repeat_blocks-end-in-Grown-4 c = room-scratch (goal.at.slice_bounds-repeat_blocks-end-in-Grown-4 c).After-words_for-need
+pub slice_bounds-repeat_blocks-end-in-Ok-4 : goal.slice_bounds-repeat_blocks-end-in-Ok-4
+slice_bounds-repeat_blocks-end-in-Ok-4 c = room-scratch (goal.at.slice_bounds-repeat_blocks-end-in-Ok-4 c).After-words_for-need
 
-pub slice_bounds-repeat_blocks-end-in-Grown-5 : goal.slice_bounds-repeat_blocks-end-in-Grown-5
-slice_bounds-repeat_blocks-end-in-Grown-5 c = sym (length-take-le _ _ (room-scratch (goal.at.slice_bounds-repeat_blocks-end-in-Grown-5 c).After-words_for-need))
+pub slice_bounds-repeat_blocks-end-in-Ok-5 : goal.slice_bounds-repeat_blocks-end-in-Ok-5
+slice_bounds-repeat_blocks-end-in-Ok-5 c = sym (length-take-le _ _ (room-scratch (goal.at.slice_bounds-repeat_blocks-end-in-Ok-5 c).After-words_for-need))
 
 pub repeat_blocks-grown-requires : goal.repeat_blocks-grown-requires
 repeat_blocks-grown-requires c =
-    let g = good (goal.at.repeat_blocks-grown-requires c).In-Grown in
+    let g = good (goal.at.repeat_blocks-grown-requires c).In-Ok in
     let w = (goal.at.repeat_blocks-grown-requires c).After-words_for-need in
     let n = needed w in
     (g.topology, g.layout.running, g.mask, length-take-le _ _ (room-region w) ∙ n, length-take-le _ _ (room-frontier w) ∙ n, length-take-le _ _ (room-scratch w) ∙ n)
 
-pub returns-in-Refused : goal.returns-in-Refused
+pub returns-in-Err-clause-value : goal.returns-in-Err-clause-value
 unfolding field_hops_answer
-returns-in-Refused c =
-    let u = c.grow_field_aware_region.ensures in
-    record { value = ap field_hops_answer (sym c.in-Refused.is ∙ u.value); inside = u.inside; edge = u.edge; spent = u.spent }
+returns-in-Err-clause-value c = c.refused.ensures ∙ ap field_hops_answer (sym c.in-Err.is ∙ c.grow_field_aware_region.ensures.value)
 
-pub shape_of-region-in-Grown : goal.shape_of-region-in-Grown
-shape_of-region-in-Grown c =
-    let r = c.repeat_blocks-grown.ensures in
-    again-long _ _ _ _ (left_is _ _ _ _ (ok (goal.at.shape_of-region-in-Grown c).In-Grown) c.grow_field_aware_region.ensures.inside) (inside-long (goal.at.shape_of-region-in-Grown c).After-words_for-need) _ r.region_after (fits-region (goal.at.shape_of-region-in-Grown c).After-words_for-need)
+pub returns-in-Ok-clause-value : goal.returns-in-Ok-clause-value
+returns-in-Ok-clause-value c =
+    c.answered.ensures
+    ∙ field-hops-told _ (field_network c.args.components.now (side_holds c.args.row_word_ptr.now c.args.row_word_indices.now c.args.row_masks.now)) c.args.words.now c.args.hops _ (ok (goal.at.returns-in-Ok-clause-value c).In-Ok) c.repeat_blocks-grown.ensures.value
 
-pub shape_of-frontier-in-Grown : goal.shape_of-frontier-in-Grown
-shape_of-frontier-in-Grown c =
-    let r = c.repeat_blocks-grown.ensures in
-    again-long _ _ _ _ (left_is _ _ _ _ (ok (goal.at.shape_of-frontier-in-Grown c).In-Grown) c.grow_field_aware_region.ensures.edge) (edge-long (goal.at.shape_of-frontier-in-Grown c).After-words_for-need) _ r.frontier_after (fits-frontier (goal.at.shape_of-frontier-in-Grown c).After-words_for-need)
-
-pub shape_of-scratch-in-Grown : goal.shape_of-scratch-in-Grown
-shape_of-scratch-in-Grown c =
-    let r = c.repeat_blocks-grown.ensures in
-    again-long _ _ _ _ (left_is _ _ _ _ (ok (goal.at.shape_of-scratch-in-Grown c).In-Grown) c.grow_field_aware_region.ensures.spent) (zeros-long (goal.at.shape_of-scratch-in-Grown c).After-words_for-need) _ (scratch-zero _ _ r.scratch_after) (fits-scratch (goal.at.shape_of-scratch-in-Grown c).After-words_for-need)
-
-pub returns-in-Grown : goal.returns-in-Grown
-returns-in-Grown c =
-    let e = ok (goal.at.returns-in-Grown c).In-Grown in
-    let u = c.grow_field_aware_region.ensures in
-    let r = c.repeat_blocks-grown.ensures in
-    record {
-      value = field-hops-told _ (field_network c.args.components.now (side_holds c.args.row_word_ptr.now c.args.row_word_indices.now c.args.row_masks.now)) c.args.words.now c.args.hops _ e r.value;
-      inside = on-accepted _ _ _ _ e (again-left _ _ _ _ (left_is _ _ _ _ e u.inside) (inside-long (goal.at.returns-in-Grown c).After-words_for-need) _ r.region_after);
-      edge = on-accepted _ _ _ _ e (again-left _ _ _ _ (left_is _ _ _ _ e u.edge) (edge-long (goal.at.returns-in-Grown c).After-words_for-need) _ r.frontier_after);
-      spent = on-accepted _ _ _ _ e (again-left _ _ _ _ (left_is _ _ _ _ e u.spent) (zeros-long (goal.at.returns-in-Grown c).After-words_for-need) _ (scratch-zero _ _ r.scratch_after));
-    }
+pub returns-in-Ok-clause-spent : goal.returns-in-Ok-clause-spent
+returns-in-Ok-clause-spent c =
+    let e = ok (goal.at.returns-in-Ok-clause-spent c).In-Ok in
+    on-accepted _ _ _ _ e (again-left _ _ _ _ (left_is _ _ _ _ e c.grow_field_aware_region.ensures.spent) (zeros-long (goal.at.returns-in-Ok-clause-spent c).After-words_for-need) _ (scratch-zero _ _ c.repeat_blocks-grown.ensures.scratch_after))

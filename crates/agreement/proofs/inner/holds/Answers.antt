@@ -1,5 +1,4 @@
--- `agreement::inner::holds` meets its contract. Assumes nothing.
-use native.Mathlib.Nat.{le_refl}
+use Rattle.std.proofs.Common.{le_refl}
 use Rattle.side.proofs.Holding.{contains-at}
 use Rattle.agreement.proofs.inner.holds.Goals as goal
 

@@ -1,4 +1,4 @@
--- `agreement::inner::word_turned` meets its contract. The invariant: the columns of the mask all hold the row exactly if those of its bits that are left do. Assumes nothing.
+-- The columns of the mask all hold the row exactly if those of its bits that are left do.
 use Rattle.side.specs.Side.{side_holds}
 use Rattle.agreement.proofs.Words.{Walk}
 use Rattle.agreement.proofs.inner.word_turned.Given as goal

@@ -54,14 +54,14 @@ drain-extra-requires c = (
 pub returns-then-missing : goal.returns-then-missing
 returns-then-missing c =
     record {
-      value = row-23 _ _ _ _ _ _ (missing (goal.at.returns-then-missing c).After-drain-extra) (extra (goal.at.returns-then-missing c).After-drain-extra) _ c.if-missing.true c.refused.ensures;
+      value = row-23 _ _ _ _ _ _ (missing (goal.at.returns-then-missing c).After-drain-extra) (extra (goal.at.returns-then-missing c).After-drain-extra) _ c.if-missing.true refl;
       seen_after = c.drain-extra.ensures.seen_after;
     }
 
 pub returns-then-extra : goal.returns-then-extra
 returns-then-extra c =
     record {
-      value = row-24 _ _ _ _ _ _ (missing (goal.at.returns-then-extra c).After-drain-extra) (extra (goal.at.returns-then-extra c).After-drain-extra) _ c.if-missing.false c.if-extra.true c.refused-then-extra.ensures;
+      value = row-24 _ _ _ _ _ _ (missing (goal.at.returns-then-extra c).After-drain-extra) (extra (goal.at.returns-then-extra c).After-drain-extra) _ c.if-missing.false c.if-extra.true refl;
       seen_after = c.drain-extra.ensures.seen_after;
     }
 

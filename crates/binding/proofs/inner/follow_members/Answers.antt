@@ -1,6 +1,8 @@
 -- `binding::inner::follow_members` meets its contract. The invariant: the rows of the members below r pass, are counted, and are marked where they
 -- have a pair. Assumes nothing.
 use mathlib.Core.Path.{◌≡◌, refl}
+use Rattle.std.specs.Prelude.{Ok}
+use Rattle.base.specs.Checks.{answer}
 use mathlib.Core.Bool.{false}
 use mathlib.Core.List.{List}
 use Prim.Native.Nat.{ℕ, ◌+◌}
@@ -17,7 +19,6 @@ use Rattle.side.specs.Side.{side_holds}
 use Rattle.binding.specs.Binding.{row_faults}
 use Rattle.binding.specs.Steps.{row_counts}
 use Rattle.binding.specs.declared.RowCounts.{RowCounts}
-use Rattle.binding.specs.declared.RowBinding.{RowBinding}
 use Rattle.binding.proofs.Answers.{bound-passes}
 use Rattle.binding.proofs.Paired.{marks-first, marks-turn, marks-last}
 use Rattle.binding.proofs.Sources.{row-follows, settle_first, settle_turn, settle_last, row_pairs, pairs_fit, sources_fit}
@@ -36,7 +37,7 @@ module _ (c : Else-not-run) where
   abbrev row : RowCounts
   row = record { pairs = c.follow-run.result.pairs; sources = c.follow-run.result.sources }
 
-  binds : RowBinding.Bound row ≡ after (row_faults start.args.n (in_mask start.args.region.now) (side_holds start.args.row_word_ptr.now start.args.word_indices.now start.args.masks.now c.loop-r.r) (stored start.args.row_ptr.now start.args.col_idx.now c.loop-r.r)) (RowBinding.Bound (row_counts start.args.n (in_mask start.args.region.now) (side_holds start.args.row_word_ptr.now start.args.word_indices.now start.args.masks.now) start.args.row_ptr.now start.args.col_idx.now c.loop-r.r)) RowBinding.Refused
+  binds : Ok row ≡ answer (row_faults start.args.n (in_mask start.args.region.now) (side_holds start.args.row_word_ptr.now start.args.word_indices.now start.args.masks.now c.loop-r.r) (stored start.args.row_ptr.now start.args.col_idx.now c.loop-r.r)) (row_counts start.args.n (in_mask start.args.region.now) (side_holds start.args.row_word_ptr.now start.args.word_indices.now start.args.masks.now) start.args.row_ptr.now start.args.col_idx.now c.loop-r.r)
   binds = row-follows start.args.n (in_mask start.args.region.now) (side_holds start.args.row_word_ptr.now start.args.word_indices.now start.args.masks.now) start.args.row_ptr.now start.args.col_idx.now c.loop-r.r c.follow-run.result.pairs c.follow-run.result.sources (c.follow-run.ensures (not-false _ c.if-not-run.false))
 
 pub next_member-r-requires : goal.next_member-r-requires

@@ -1,5 +1,7 @@
 -- `binding::inner::settle_row` meets its contract. Assumes nothing.
 use mathlib.Core.Path.{sym, ap, ◌∙◌}
+use Rattle.base.proofs.Checks.{handed}
+use Rattle.std.specs.Prelude.{Ok, Err}
 use Prim.Native.Nat.{◌+◌}
 use native.Mathlib.Omega.{arith}
 use Rattle.base.proofs.Checks.{on-refused}
@@ -35,15 +37,15 @@ count_row-row-requires c = (c.requires.0, c.requires.2, c.requires.3)
 pub count_inside-requires : goal.count_inside-requires
 count_inside-requires c = (c.requires.2, row-entries _ _ _ c.requires.1 c.args.r c.requires.3)
 
-pub returns-in-Refused : goal.returns-in-Refused
-returns-in-Refused c = record {
-  value = on-refused _ _ _ _ (sym c.check_row.ensures.value ∙ c.in-Refused.is);
+pub returns-in_err-check_row : goal.returns-in_err-check_row
+returns-in_err-check_row c = record {
+  value = handed _ _ c.from_residual.ensures.1 ∙ on-refused _ _ _ _ (sym c.check_row.ensures.value ∙ c.in_err-check_row.was);
   seen_after = c.check_row.ensures.seen_after;
 }
 
-pub returns-in-Accepted : goal.returns-in-Accepted
-returns-in-Accepted c =
+pub returns : goal.returns
+returns c =
     record {
-      value = row-bound c.args.n (in_mask c.args.region.now) (side_holds c.args.row_word_ptr.now c.args.word_indices.now c.args.masks.now) c.args.row_ptr.now c.args.col_idx.now c.args.r c.count_row-row.result.kept c.count_inside.result _ c.check_row.ensures.value c.in-Accepted.is (ap (λ (k : RowKept). k.kept) c.count_row-row.ensures) c.count_inside.ensures;
+      value = row-bound c.args.n (in_mask c.args.region.now) (side_holds c.args.row_word_ptr.now c.args.word_indices.now c.args.masks.now) c.args.row_ptr.now c.args.col_idx.now c.args.r c.count_row-row.result.kept c.count_inside.result _ c.check_row.ensures.value c.in_ok-check_row.was (ap (λ (k : RowKept). k.kept) c.count_row-row.ensures) c.count_inside.ensures;
       seen_after = c.check_row.ensures.seen_after;
     }

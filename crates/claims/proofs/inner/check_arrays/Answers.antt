@@ -1,5 +1,8 @@
 -- `claims::inner::check_arrays` meets its contract. Assumes nothing.
 use mathlib.Core.Path.{refl, sym, ◌∙◌}
+use Rattle.std.specs.Prelude.{Err}
+use mathlib.Core.Path.{ap}
+use Rattle.base.proofs.Checks.{handed}
 use borrow.Author.Tests.{eq-eqb, ne_eqb}
 use Rattle.base.proofs.Checks.{group-pass, group-stop}
 use Rattle.claims.specs.Run.{arrays_check}
@@ -8,16 +11,16 @@ use Rattle.claims.proofs.inner.check_arrays.Goals as goal
 
 pub returns-then-rooms-hops : goal.returns-then-rooms-hops
 unfolding arrays_check
-returns-then-rooms-hops c = group-pass _ _ _ (sym c.check_length.ensures ∙ c.in-Accepted.is) (group-pass _ _ _ (sym c.check_pairs.ensures ∙ c.in-Accepted-check_pairs.is) (last-wrong _ _ _ (ne_eqb _ _ c.if-rooms-hops.true) c.wrong_length.ensures))
+returns-then-rooms-hops c = group-pass _ _ _ (sym c.check_length.ensures ∙ c.in_ok-check_length.was) (group-pass _ _ _ (sym c.check_pairs.ensures ∙ c.in_ok-check_pairs.was) (last-wrong _ _ _ (ne_eqb _ _ c.if-rooms-hops.true) (ap Err c.wrong_length.ensures)))
 
-pub returns-in-Refused : goal.returns-in-Refused
+pub returns-in_err-check_length : goal.returns-in_err-check_length
 unfolding arrays_check
-returns-in-Refused c = group-stop _ _ _ (sym c.check_length.ensures ∙ c.in-Refused.is)
+returns-in_err-check_length c = handed _ _ c.from_residual.ensures.1 ∙ group-stop _ _ _ (sym c.check_length.ensures ∙ c.in_err-check_length.was)
 
-pub returns-in-Refused-check_pairs : goal.returns-in-Refused-check_pairs
+pub returns-in_err-check_pairs : goal.returns-in_err-check_pairs
 unfolding arrays_check
-returns-in-Refused-check_pairs c = group-pass _ _ _ (sym c.check_length.ensures ∙ c.in-Accepted.is) (group-stop _ _ _ (sym c.check_pairs.ensures ∙ c.in-Refused-check_pairs.is))
+returns-in_err-check_pairs c = handed _ _ c.from_residual-in_err-check_pairs.ensures.1 ∙ group-pass _ _ _ (sym c.check_length.ensures ∙ c.in_ok-check_length.was) (group-stop _ _ _ (sym c.check_pairs.ensures ∙ c.in_err-check_pairs.was))
 
-pub returns-else-rooms-hops : goal.returns-else-rooms-hops
+pub returns : goal.returns
 unfolding arrays_check
-returns-else-rooms-hops c = group-pass _ _ _ (sym c.check_length.ensures ∙ c.in-Accepted.is) (group-pass _ _ _ (sym c.check_pairs.ensures ∙ c.in-Accepted-check_pairs.is) (last-length _ _ _ (eq-eqb _ _ c.if-rooms-hops.false) refl))
+returns c = group-pass _ _ _ (sym c.check_length.ensures ∙ c.in_ok-check_length.was) (group-pass _ _ _ (sym c.check_pairs.ensures ∙ c.in_ok-check_pairs.was) (last-length _ _ _ (eq-eqb _ _ c.if-rooms-hops.false) refl))

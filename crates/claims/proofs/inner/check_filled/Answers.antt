@@ -1,9 +1,11 @@
 -- `claims::inner::check_filled` meets its contract: a mask that holds all nodes binds as `pairs_check` says. Assumes nothing.
 use mathlib.Core.Path.{◌≡◌, sym, ◌∙◌}
+use Rattle.base.proofs.Checks.{handed}
+use Rattle.std.specs.Prelude.{Ok, Err}
+use Rattle.base.specs.Checks.{Check}
 use mathlib.Core.Bool.{Bool}
 use Prim.Native.Nat.{ℕ}
 use native.Mathlib.Nat.{le_refl}
-use Rattle.base.specs.declared.Checked.{Checked}
 use Rattle.mask.specs.Mask.{in_mask}
 use Rattle.mask.proofs.Masks.{is-of}
 use Rattle.csr32.specs.Matrix.{stored}
@@ -31,7 +33,7 @@ module _ (c : After-bind) where
   abbrev region : ℕ → Bool
   region = in_mask c.add_range.new.words
 
-  abbrev check : Checked
+  abbrev check : Check
   check = binding_check s.args.n region pairs entries
 
   abbrev counts : Counts
@@ -46,8 +48,8 @@ add_range-requires c = (is-of _ _ _ c.requires.0.shape.few_rows c.requires.2, le
 pub bind-requires : goal.bind-requires
 bind-requires c = (c.requires.0, c.requires.1, all-mask _ _ _ c.add_range.ensures c.requires.0.shape.few_rows)
 
-pub returns-in-Refused : goal.returns-in-Refused
-returns-in-Refused c = sym (refused-stops (check (goal.at.returns-in-Refused c).After-bind) (counts (goal.at.returns-in-Refused c).After-bind) c.in-Refused.r (sym c.in-Refused.is ∙ c.bind.ensures)) ∙ all-rows (goal.at.returns-in-Refused c).After-bind
+pub returns-in_err-bind : goal.returns-in_err-bind
+returns-in_err-bind c = handed _ _ c.from_residual.ensures.1 ∙ sym (refused-stops (check (goal.at.returns-in_err-bind c).After-bind) (counts (goal.at.returns-in_err-bind c).After-bind) _ (sym c.in_err-bind.was ∙ c.bind.ensures)) ∙ all-rows (goal.at.returns-in_err-bind c).After-bind
 
-pub returns-in-Bound : goal.returns-in-Bound
-returns-in-Bound c = sym (bound-passes (check (goal.at.returns-in-Bound c).After-bind) (counts (goal.at.returns-in-Bound c).After-bind) c.in-Bound.field-0 (sym c.in-Bound.is ∙ c.bind.ensures)).0 ∙ all-rows (goal.at.returns-in-Bound c).After-bind
+pub returns : goal.returns
+returns c = sym (bound-passes (check (goal.at.returns c).After-bind) (counts (goal.at.returns c).After-bind) c.in_ok-bind.field-0 (sym c.in_ok-bind.was ∙ c.bind.ensures)).0 ∙ all-rows (goal.at.returns c).After-bind

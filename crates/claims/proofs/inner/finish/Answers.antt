@@ -1,6 +1,7 @@
 -- `claims::inner::finish` meets its contract. Assumes nothing.
 use mathlib.Core.Path.{ap, ◌∙◌}
-use Rattle.claims.specs.declared.RunAnswer.{RunAnswer}
+use Rattle.claims.specs.Run.{with_cut, without_cut}
+use Rattle.std.specs.Prelude.{Err}
 use Rattle.growths.proofs.Growing.{grown-none, grown-some}
 use Rattle.claims.proofs.inner.finish.Goals as goal
 
@@ -20,7 +21,7 @@ pub returns : goal.returns
 returns c =
     let e = c.if-ran-eq0.false in
     let u = c.cut-local.ensures in record {
-      value = ap (RunAnswer.Grown c.args.ran) u.value ∙ grown-some _ _ _ e;
+      value = ap (with_cut c.args.ran) u.value ∙ grown-some _ _ _ e;
       members = u.members ∙ grown-some _ _ _ e;
       pointers = u.pointers ∙ grown-some _ _ _ e;
       columns = u.columns ∙ grown-some _ _ _ e;

@@ -1,13 +1,8 @@
 -- `field_region::inner::write_owners` meets its contract. The invariant: the owners of the blocks before b are written. Assumes nothing.
-use mathlib.Core.Path.{◌≡◌}
-use Prim.Native.Nat.{◌-◌, ◌≤◌}
-use lib.ListN.{length}
+use Rattle.std.proofs.Common.{◌≡◌}
 use Rattle.base.specs.Lists.{written}
 use Rattle.field_region.specs.Owners.{owners_of}
 use Rattle.field_region.proofs.inner.write_owners.Given as goal
 
 abbrev pub invariant-loop-b : goal.invariant-loop-b
-invariant-loop-b l = (l.b ≤ length l.components) × (length l.out ≡ length l.initial.out) × (l.out ≡ written l.b (owners_of l.components l.dof_owners) l.initial.out)
-
-abbrev pub decreases-loop-b : goal.decreases-loop-b
-decreases-loop-b l = length l.components - l.b
+invariant-loop-b l = l.out ≡ written l.b (owners_of l.components l.dof_owners) l.initial.out

@@ -1,13 +1,8 @@
 -- `gather::inner::copy_sources` meets its contract. The invariant: the values of the first sources stand over the front of the lent list. Assumes nothing.
 use mathlib.Core.Path.{◌≡◌}
-use Prim.Native.Nat.{◌-◌, ◌≤◌}
-use lib.ListN.{length}
 use Rattle.base.specs.Lists.{written}
 use Rattle.gather.specs.Gather.{values_of}
 use Rattle.gather.proofs.inner.copy_sources.Given as goal
 
 abbrev pub invariant-loop-i : goal.invariant-loop-i
-invariant-loop-i l = (l.i ≤ length l.sources) × (length l.out ≡ length l.initial.out) × (l.out ≡ written l.i (values_of l.values l.sources) l.initial.out)
-
-abbrev pub decreases-loop-i : goal.decreases-loop-i
-decreases-loop-i l = length l.sources - l.i
+invariant-loop-i l = l.out ≡ written l.i (values_of l.values l.sources) l.initial.out

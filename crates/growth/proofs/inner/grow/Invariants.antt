@@ -1,5 +1,4 @@
 -- `growth::inner::grow` meets its contract. The invariant: the masks and sums after k hops, none of them on an empty frontier. Assumes nothing.
-use Prim.Native.Nat.{◌-◌}
 use Rattle.side.specs.Side.{side_holds}
 use Rattle.graph.specs.Network.{plain_network}
 use Rattle.growth.proofs.Growing.{Growing}
@@ -7,6 +6,3 @@ use Rattle.growth.proofs.inner.grow.Given as goal
 
 abbrev pub invariant-loop-k : goal.invariant-loop-k
 invariant-loop-k l = Growing (plain_network l.n (side_holds l.row_word_ptr l.row_word_indices l.row_masks)) l.seeds l.hops l.k l.region l.frontier l.scratch l.some l.visits
-
-abbrev pub decreases-loop-k : goal.decreases-loop-k
-decreases-loop-k l = l.hops - l.k

@@ -1,14 +1,14 @@
 -- `growth::inner::take_row` meets its contract. The invariant: the words of the row before k are joined, their bits counted. Assumes nothing.
-use mathlib.Core.Path.{◌≡◌}
-use Prim.Native.Nat.{◌-◌, ◌≤◌}
-use lib.ListN.{length}
+use Rattle.std.proofs.Common.{◌≡◌, ◌≤◌, length}
 use Rattle.mask.specs.Mask.{mask_words}
 use Rattle.side.specs.Check.{bits_in}
 use Rattle.growth.proofs.Takes.{taking}
 use Rattle.growth.proofs.inner.take_row.Given as goal
 
 abbrev pub invariant-loop-k : goal.invariant-loop-k
-invariant-loop-k l = (l.from ≤ l.k) × (l.k ≤ l.to) × (length l.reached ≡ length l.initial.reached) × (l.bits ≡ bits_in l.masks l.from l.k) × (l.reached ≡ mask_words l.n (taking l.n l.initial.reached l.word_indices l.masks l.from l.k))
-
-abbrev pub decreases-loop-k : goal.decreases-loop-k
-decreases-loop-k l = l.to - l.k
+invariant-loop-k l = record {
+  up : l.from ≤ l.to;
+  stored : l.to ≤ length l.masks;
+  counted : l.bits ≡ bits_in l.masks l.from l.k;
+  joined : l.reached ≡ mask_words l.n (taking l.n l.initial.reached l.word_indices l.masks l.from l.k);
+}

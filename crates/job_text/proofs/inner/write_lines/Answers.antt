@@ -8,20 +8,20 @@ use Rattle.base.specs.Lists.{over}
 use Rattle.job_text.proofs.Lines as lines
 use Rattle.job_text.proofs.inner.write_lines.Goals as goal
 
-pub list_line-a-requires : goal.list_line-a-requires
-list_line-a-requires c = omega (arith, c.requires, lines.lines-sum c.args.region.now c.args.frontier.now c.args.completed c.args.ptr.now c.args.cols.now)
+pub put_line-a-requires : goal.put_line-a-requires
+put_line-a-requires c = omega (arith, lines.lines-sum)
 
-pub list_line-b-requires : goal.list_line-b-requires
-list_line-b-requires c = omega (arith, c.requires, lines.lines-sum c.args.region.now c.args.frontier.now c.args.completed c.args.ptr.now c.args.cols.now, c.list_line-a.ensures.value, c.list_line-a.auto.out)
+pub put_line-b-requires : goal.put_line-b-requires
+put_line-b-requires c = omega (arith, lines.lines-sum)
 
-pub number_line-c-requires : goal.number_line-c-requires
-number_line-c-requires c = omega (arith, c.requires, lines.lines-sum c.args.region.now c.args.frontier.now c.args.completed c.args.ptr.now c.args.cols.now, c.list_line-b.ensures.value, c.list_line-b.auto.out, c.list_line-a.ensures.value, c.list_line-a.auto.out)
+pub put_line-c-requires : goal.put_line-c-requires
+put_line-c-requires c = omega (arith, lines.lines-sum)
 
-pub list_line-d-requires : goal.list_line-d-requires
-list_line-d-requires c = omega (arith, c.requires, lines.lines-sum c.args.region.now c.args.frontier.now c.args.completed c.args.ptr.now c.args.cols.now, c.number_line-c.ensures.value, c.number_line-c.auto.out, c.list_line-b.ensures.value, c.list_line-b.auto.out, c.list_line-a.ensures.value, c.list_line-a.auto.out)
+pub put_line-d-requires : goal.put_line-d-requires
+put_line-d-requires c = omega (arith, lines.lines-sum)
 
-pub list_line-requires : goal.list_line-requires
-list_line-requires c = omega (arith, c.requires, lines.lines-sum c.args.region.now c.args.frontier.now c.args.completed c.args.ptr.now c.args.cols.now, c.list_line-d.ensures.value, c.list_line-d.auto.out, c.number_line-c.ensures.value, c.number_line-c.auto.out, c.list_line-b.ensures.value, c.list_line-b.auto.out, c.list_line-a.ensures.value, c.list_line-a.auto.out)
+pub put_line-requires : goal.put_line-requires
+put_line-requires c = omega (arith, lines.lines-sum)
 
 pub returns : goal.returns
 returns c =
@@ -31,11 +31,11 @@ returns c =
     let L3 = lines.line3 c.args.region.now c.args.frontier.now c.args.completed c.args.ptr.now c.args.cols.now in
     let L4 = lines.line4 c.args.region.now c.args.frontier.now c.args.completed c.args.ptr.now c.args.cols.now in
     let L5 = lines.line5 c.args.region.now c.args.frontier.now c.args.completed c.args.ptr.now c.args.cols.now in
-    let a = c.list_line-a in
-    let b = c.list_line-b in
-    let d = c.number_line-c in
-    let e = c.list_line-d in
-    let f = c.list_line in
+    let a = c.put_line-a in
+    let b = c.put_line-b in
+    let d = c.put_line-c in
+    let e = c.put_line-d in
+    let f = c.put_line in
     let m1 : a.new.out ≡ over L1 o = a.ensures.out_after ∙ lines.placed-front L1 o in
     let n1 : a.result ≡ length L1 = omega (arith, a.ensures.value) in
     let m2 : b.new.out ≡ over (L1 ++ L2) o = lines.placed-behind L1 L2 o _ _ a.result m1 n1 b.ensures.out_after in

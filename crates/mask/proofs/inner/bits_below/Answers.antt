@@ -1,6 +1,5 @@
 -- `mask::inner::bits_below` meets its contract. Assumes nothing.
-use Rattle.word.proofs.Answers.{shl-pos}
-use Rattle.mask.proofs.Stores.{below_none, below_all, below-some}
+use Rattle.mask.proofs.Stores.{below_none, below_all}
 use Rattle.mask.proofs.inner.bits_below.Goals as goal
 
 pub returns-then-bound-first : goal.returns-then-bound-first
@@ -8,9 +7,3 @@ returns-then-bound-first c = below_none _ _ c.if-bound-first.true
 
 pub returns-then-left-ge-BITS : goal.returns-then-left-ge-BITS
 returns-then-left-ge-BITS c = below_all _ _ c.if-left-ge-BITS.true
-
-pub overflow_sub-result : goal.overflow_sub-result
-overflow_sub-result c = shl-pos _ c.if-left-ge-BITS.false
-
-pub returns : goal.returns
-returns c = below-some _ _ c.if-bound-first.false c.if-left-ge-BITS.false

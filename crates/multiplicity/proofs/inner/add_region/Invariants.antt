@@ -1,7 +1,5 @@
 -- `multiplicity::inner::add_region` meets its contract. The invariants: the members of the words before w are counted; of word w those whose bits are
 -- no longer left. Assumes nothing.
-use Prim.Native.Nat.{◌-◌}
-use lib.ListN.{length}
 use Rattle.multiplicity.proofs.Adds.{Walked, Added}
 use Rattle.multiplicity.proofs.inner.add_region.Given as goal
 
@@ -13,6 +11,3 @@ decreases-loop-bits l = l.bits
 
 abbrev pub invariant-loop-w : goal.invariant-loop-w
 invariant-loop-w l = Added l.node_count l.region l.initial.counts l.counts l.w
-
-abbrev pub decreases-loop-w : goal.decreases-loop-w
-decreases-loop-w l = length l.region - l.w

@@ -1,13 +1,8 @@
 -- `multiplicity::inner::all_clean` meets its contract. The invariant: the regions below q are clean. Assumes nothing.
-use mathlib.Core.Path.{◌≡◌}
-use mathlib.Core.Bool.{true}
-use Prim.Native.Nat.{ℕ, ◌-◌, ◌≤◌, ◌<◌}
+use Rattle.std.proofs.Common.{◌≡◌, ℕ, ◌<◌, true}
 use Rattle.mask.specs.Mask.{clean}
 use Rattle.multiplicity.specs.Multiplicity.{region_at}
 use Rattle.multiplicity.proofs.inner.all_clean.Given as goal
 
 abbrev pub invariant-loop-q : goal.invariant-loop-q
-invariant-loop-q l = (l.q ≤ l.region_count) × ((p : ℕ) → p < l.q → clean l.node_count (region_at l.node_count l.words p) ≡ true)
-
-abbrev pub decreases-loop-q : goal.decreases-loop-q
-decreases-loop-q l = l.region_count - l.q
+invariant-loop-q l = (p : ℕ) → p < l.q → clean l.node_count (region_at l.node_count l.words p) ≡ true

@@ -1,15 +1,16 @@
 -- `numeric_plan::inner::prepare_marked` meets its contract. Assumes nothing.
 use mathlib.Core.Path.{◌≡◌, sym, ap, ◌∙◌}
+use Rattle.std.specs.Prelude.{Ok, Err}
+use Rattle.base.specs.Checks.{Check}
+use Rattle.base.proofs.Checks.{handed}
 use mathlib.Core.Bool.{Bool}
 use mathlib.Core.List.{List}
 use Prim.Native.Nat.{ℕ, ◌≤◌}
 use native.Mathlib.Omega.{arith}
 use lib.ListN.{length, take}
-use lib.Seq.{length-take-le}
 use Rattle.base.specs.Checks.{◌then◌}
-use Rattle.base.specs.declared.Checked.{Checked}
 use Rattle.base.proofs.Checks.{on-accepted, on-refused, kept, group-pass, group-stop}
-use Rattle.base.proofs.Lists.{part-needed, part-take, part-long}
+use Rattle.base.proofs.Lists.{part-take}
 use Rattle.mask.specs.Mask.{in_mask, mask_words}
 use Rattle.mask.proofs.Masks.{zeros-empty, mask-length}
 use Rattle.csr32.specs.Matrix.{stored}
@@ -20,10 +21,9 @@ use Rattle.binding.specs.Steps.{counts_of, has_pair}
 use Rattle.binding.specs.declared.Counts.{Counts}
 use Rattle.binding.proofs.Answers.{bound-passes, refused-stops}
 use Rattle.numeric_plan.specs.Plan.{pair_entries, plan_room, plan_check}
-use Rattle.numeric_plan.specs.declared.PlanPrepared.{PlanPrepared}
 use Rattle.numeric_plan.proofs.OneRow.{marked_by}
 use Rattle.numeric_plan.proofs.Prepared.{Room, plan-fits, plan_fits, counted-sources, counts-small, stats_are}
-use Rattle.numeric_plan.proofs.inner.prepare_marked.Goals.{After-check_room, After-words_for-need, In-Accepted, In-Bound, Start}
+use Rattle.numeric_plan.proofs.inner.prepare_marked.Goals.{After-check_room, After-words_for-need, In_ok-check_room, In_ok-counts, Start}
 use Rattle.numeric_plan.proofs.inner.prepare_marked.Goals as goal
 
 -- the pairs of the rows side
@@ -37,15 +37,15 @@ abbrev lists : Start → List (List ℕ)
 lists s = pair_entries s.args.n (region s) (pairs s) s.args.row_ptr.now s.args.col_idx.now
 
 -- the checks but for 25
-abbrev check : Start → Checked
+abbrev check : Start → Check
 check s = binding_check s.args.n (region s) (pairs s) (stored s.args.row_ptr.now s.args.col_idx.now)
 
-abbrev room : Start → Checked
+abbrev room : Start → Check
 room s =
     pattern_room s.args.n (region s) (pairs s) s.args.nodes.now s.args.local_ptr.now s.args.local_cols.now
     then plan_room (lists s) s.args.source_ptr.now s.args.sources.now
 
-abbrev whole : Start → Checked
+abbrev whole : Start → Check
 whole s =
     plan_check (check s) s.args.n (region s) (pairs s) (lists s) s.args.nodes.now s.args.local_ptr.now s.args.local_cols.now s.args.source_ptr.now s.args.sources.now
 
@@ -54,15 +54,15 @@ words_left : (c : After-words_for-need) → c.words_for-need.result ≤ length c
 words_left c = omega (arith, c.words_for-need.ensures, c.requires.4)
 
 -- in this arm the rows bind, and these are their counts
-module _ (c : In-Bound) where
+module _ (c : In_ok-counts) where
   abbrev s : Start
-  s = (goal.at.In-Bound c).Start
+  s = (goal.at.In_ok-counts c).Start
 
   abbrev counts : Counts
-  counts = c.in-Bound.counts
+  counts = c.in_ok-counts.counts
 
-  passes : (check s ≡ Checked.Accepted) × (counts ≡ counts_of s.args.n (region s) (pairs s) s.args.row_ptr.now s.args.col_idx.now)
-  passes = bound-passes (check s) (counts_of s.args.n (region s) (pairs s) s.args.row_ptr.now s.args.col_idx.now) counts (sym c.in-Bound.is ∙ c.bind_rows.ensures.value)
+  passes : (check s ≡ Ok tt) × (counts ≡ counts_of s.args.n (region s) (pairs s) s.args.row_ptr.now s.args.col_idx.now)
+  passes = bound-passes (check s) (counts_of s.args.n (region s) (pairs s) s.args.row_ptr.now s.args.col_idx.now) counts (sym c.in_ok-counts.was ∙ c.bind_rows.ensures.value)
 
   abbrev marks : List ℕ
   marks = mask_words s.args.n (has_pair s.args.n (region s) (pairs s))
@@ -79,52 +79,45 @@ module _ (c : In-Bound) where
 -- the room that the counts say
 counted : (c : After-check_room) → c.check_room.result ≡ room (goal.at.After-check_room c).Start
 counted c =
-    c.check_room.ensures ∙ plan_fits c.args.n (region (goal.at.After-check_room c).Start) (pairs (goal.at.After-check_room c).Start) c.args.row_ptr.now c.args.col_idx.now c.requires.1 (passes (goal.at.After-check_room c).In-Bound).0 (counts (goal.at.After-check_room c).In-Bound) (passes (goal.at.After-check_room c).In-Bound).1 c.args.nodes.now c.args.local_ptr.now c.args.local_cols.now c.args.source_ptr.now c.args.sources.now
+    c.check_room.ensures ∙ plan_fits c.args.n (region (goal.at.After-check_room c).Start) (pairs (goal.at.After-check_room c).Start) c.args.row_ptr.now c.args.col_idx.now c.requires.1 (passes (goal.at.After-check_room c).In_ok-counts).0 (counts (goal.at.After-check_room c).In_ok-counts) (passes (goal.at.After-check_room c).In_ok-counts).1 c.args.nodes.now c.args.local_ptr.now c.args.local_cols.now c.args.source_ptr.now c.args.sources.now
 
 -- and here the lists reach their needed lengths
-module _ (c : In-Accepted) where
+module _ (c : In_ok-check_room) where
   abbrev s2 : Start
-  s2 = (goal.at.In-Accepted c).Start
+  s2 = (goal.at.In_ok-check_room c).Start
 
-  enough : room s2 ≡ Checked.Accepted
-  enough = sym (counted (goal.at.In-Accepted c).After-check_room) ∙ c.in-Accepted.is
+  enough : room s2 ≡ Ok tt
+  enough = sym (counted (goal.at.In_ok-check_room c).After-check_room) ∙ c.in_ok-check_room.was
 
-  all : whole s2 ≡ Checked.Accepted
+  all : whole s2 ≡ Ok tt
   unfolding plan_check
-  all = sym (group-pass _ _ _ (passes (goal.at.In-Accepted c).In-Bound).0 (sym enough))
+  all = sym (group-pass _ _ _ (passes (goal.at.In_ok-check_room c).In_ok-counts).0 (sym enough))
 
   long : Room s2.args.n (region s2) (pairs s2) s2.args.row_ptr.now s2.args.col_idx.now s2.args.nodes.now s2.args.local_ptr.now s2.args.local_cols.now s2.args.source_ptr.now s2.args.sources.now
   long = plan-fits s2.args.n (region s2) (pairs s2) s2.args.row_ptr.now s2.args.col_idx.now s2.args.nodes.now s2.args.local_ptr.now s2.args.local_cols.now s2.args.source_ptr.now s2.args.sources.now enough
-
-pub slice_bounds-bind_rows-end-2 : goal.slice_bounds-bind_rows-end-2
-slice_bounds-bind_rows-end-2 c = sym (length-take-le _ _ (words_left (goal.at.slice_bounds-bind_rows-end-2 c).After-words_for-need))
 
 pub bind_rows-requires : goal.bind_rows-requires
 bind_rows-requires c =
     let need = c.words_for-need.result in
     (c.requires.0, c.requires.1, c.requires.2, ap (take need) c.requires.3 ∙ zeros-empty c.args.n (length c.args.paired.now) need c.words_for-need.ensures (words_left (goal.at.bind_rows-requires c).After-words_for-need))
 
-pub slice_bounds-write-end-in-Accepted : goal.slice_bounds-write-end-in-Accepted
-slice_bounds-write-end-in-Accepted c =
-    part-needed (held (goal.at.slice_bounds-write-end-in-Accepted c).In-Bound) (marks (goal.at.slice_bounds-write-end-in-Accepted c).In-Bound) c.args.paired.now c.words_for-need.result (marked (goal.at.slice_bounds-write-end-in-Accepted c).In-Bound) (as_long (goal.at.slice_bounds-write-end-in-Accepted c).In-Bound)
-
 pub write-requires : goal.write-requires
 write-requires c =
-    let p = passes (goal.at.write-requires c).In-Bound in
-    let l = long (goal.at.write-requires c).In-Accepted in
+    let p = passes (goal.at.write-requires c).In_ok-counts in
+    let l = long (goal.at.write-requires c).In_ok-check_room in
     let f = l.pattern_fits in
-    let terms = counted-sources c.args.n (region (goal.at.write-requires c).Start) (pairs (goal.at.write-requires c).Start) c.args.row_ptr.now c.args.col_idx.now c.requires.1 p.0 (counts (goal.at.write-requires c).In-Bound) p.1 in
-    let front = part-take (held (goal.at.write-requires c).In-Bound) (marks (goal.at.write-requires c).In-Bound) c.args.paired.now c.words_for-need.result (marked (goal.at.write-requires c).In-Bound) (as_long (goal.at.write-requires c).In-Bound) in
+    let terms = counted-sources c.args.n (region (goal.at.write-requires c).Start) (pairs (goal.at.write-requires c).Start) c.args.row_ptr.now c.args.col_idx.now c.requires.1 p.0 (counts (goal.at.write-requires c).In_ok-counts) p.1 in
+    let front = part-take (held (goal.at.write-requires c).In_ok-counts) (marks (goal.at.write-requires c).In_ok-counts) c.args.paired.now c.words_for-need.result (marked (goal.at.write-requires c).In_ok-counts) (as_long (goal.at.write-requires c).In_ok-counts) in
     (c.requires.0, c.requires.1, c.requires.2, p.0, f.nodes_room, f.ptr_room, f.columns_room, l.pointers_room, terms, omega (arith, terms, l.sources_room), marked_by c.args.n c.args.region.now _ (pairs (goal.at.write-requires c).Start) c.requires.2.short front)
 
 pub stats-requires : goal.stats-requires
-stats-requires c = counts-small _ _ _ _ _ c.requires.1 (passes (goal.at.stats-requires c).In-Bound).0 (counts (goal.at.stats-requires c).In-Bound) (passes (goal.at.stats-requires c).In-Bound).1
+stats-requires c = counts-small _ _ _ _ _ c.requires.1 (passes (goal.at.stats-requires c).In_ok-counts).0 (counts (goal.at.stats-requires c).In_ok-counts) (passes (goal.at.stats-requires c).In_ok-counts).1
 
-pub returns-in-Refused : goal.returns-in-Refused
+pub returns-in_err-counts : goal.returns-in_err-counts
 unfolding plan_check
-returns-in-Refused c =
-    let e : whole (goal.at.returns-in-Refused c).Start ≡ Checked.Refused _ = sym (group-stop _ (room (goal.at.returns-in-Refused c).Start) _ (refused-stops _ _ _ (sym c.in-Refused.is ∙ c.bind_rows.ensures.value))) in record {
-      value = on-refused _ _ _ PlanPrepared.Refused e;
+returns-in_err-counts c =
+    let e : whole (goal.at.returns-in_err-counts c).Start ≡ Err _ = sym (group-stop _ (room (goal.at.returns-in_err-counts c).Start) _ (refused-stops _ _ _ (sym c.in_err-counts.was ∙ c.bind_rows.ensures.value))) in record {
+      value = handed _ _ c.from_residual.ensures.1 ∙ on-refused _ _ _ Err e;
       members = kept _ _ _ _ e;
       pointers = kept _ _ _ _ e;
       columns = kept _ _ _ _ e;
@@ -132,12 +125,12 @@ returns-in-Refused c =
       entries = kept _ _ _ _ e;
     }
 
-pub returns-in-Refused-check_room : goal.returns-in-Refused-check_room
+pub returns-in_err-check_room : goal.returns-in_err-check_room
 unfolding plan_check
-returns-in-Refused-check_room c =
-    let no_room : room (goal.at.returns-in-Refused-check_room c).Start ≡ Checked.Refused _ = sym (counted (goal.at.returns-in-Refused-check_room c).After-check_room) ∙ c.in-Refused-check_room.is in
-    let e : whole (goal.at.returns-in-Refused-check_room c).Start ≡ Checked.Refused _ = sym (group-pass _ _ _ (passes (goal.at.returns-in-Refused-check_room c).In-Bound).0 (sym no_room)) in record {
-      value = on-refused _ _ _ PlanPrepared.Refused e;
+returns-in_err-check_room c =
+    let no_room : room (goal.at.returns-in_err-check_room c).Start ≡ Err _ = sym (counted (goal.at.returns-in_err-check_room c).After-check_room) ∙ c.in_err-check_room.was in
+    let e : whole (goal.at.returns-in_err-check_room c).Start ≡ Err _ = sym (group-pass _ _ _ (passes (goal.at.returns-in_err-check_room c).In_ok-counts).0 (sym no_room)) in record {
+      value = handed _ _ c.from_residual-in_err-check_room.ensures.1 ∙ on-refused _ _ _ Err e;
       members = kept _ _ _ _ e;
       pointers = kept _ _ _ _ e;
       columns = kept _ _ _ _ e;
@@ -145,16 +138,12 @@ returns-in-Refused-check_room c =
       entries = kept _ _ _ _ e;
     }
 
-pub shape_of-paired-in-Accepted : goal.shape_of-paired-in-Accepted
-shape_of-paired-in-Accepted c =
-    part-long (held (goal.at.shape_of-paired-in-Accepted c).In-Bound) (marks (goal.at.shape_of-paired-in-Accepted c).In-Bound) c.args.paired.now c.words_for-need.result (marked (goal.at.shape_of-paired-in-Accepted c).In-Bound) (as_long (goal.at.shape_of-paired-in-Accepted c).In-Bound) (words_left (goal.at.shape_of-paired-in-Accepted c).After-words_for-need)
-
-pub returns-in-Accepted : goal.returns-in-Accepted
-returns-in-Accepted c =
-    let p = passes (goal.at.returns-in-Accepted c).In-Bound in
-    let e = all (goal.at.returns-in-Accepted c).In-Accepted in
+pub returns : goal.returns
+returns c =
+    let p = passes (goal.at.returns c).In_ok-counts in
+    let e = all (goal.at.returns c).In_ok-check_room in
     let w = c.write.ensures in record {
-      value = on-accepted _ _ _ _ e (ap PlanPrepared.Prepared (stats_are c.args.n (region (goal.at.returns-in-Accepted c).Start) (pairs (goal.at.returns-in-Accepted c).Start) c.args.row_ptr.now c.args.col_idx.now c.requires.1 p.0 (counts (goal.at.returns-in-Accepted c).In-Bound) p.1 _ c.stats.ensures));
+      value = on-accepted _ _ _ _ e (ap Ok (stats_are c.args.n (region (goal.at.returns c).Start) (pairs (goal.at.returns c).Start) c.args.row_ptr.now c.args.col_idx.now c.requires.1 p.0 (counts (goal.at.returns c).In_ok-counts) p.1 _ c.stats.ensures));
       members = on-accepted _ _ _ _ e w.members;
       pointers = on-accepted _ _ _ _ e w.pointers;
       columns = on-accepted _ _ _ _ e w.columns;

@@ -15,7 +15,7 @@ use Rattle.sources.specs.Steps.{columns_in, inside_in, pair_at, entries_at, ends
 use Rattle.sources.proofs.Inside.{put_same, put-placed}
 use Rattle.numeric_plan.specs.Steps.{row_entries}
 use Rattle.numeric_plan.proofs.OneRow.{columns-stored, inside-length, chosen-low, chosen-rise, row-empty, row-local, row-joined, row-ended}
-use Rattle.numeric_plan.proofs.inner.write_row.Goals.{After-slice_known-7-1, After-take_inside-next, After-write_row-last, Start}
+use Rattle.numeric_plan.proofs.inner.write_row.Goals.{After-write_counted-all, After-take_inside-next, After-write_row-last, Start}
 use Rattle.numeric_plan.proofs.inner.write_row.Goals as goal
 
 module _ (s : Start) where
@@ -59,11 +59,6 @@ module _ (c : After-take_inside-next) where
   ends : c.take_inside-next.result ≤ t.args.most
   ends = omega (arith, c.take_inside-next.ensures.value, many t, t.requires.5.within)
 
-pub holds-requires : goal.holds-requires
-holds-requires c =
-    let q = c.requires in
-    (q.6.mask, q.3)
-
 pub returns-then-not-holds : goal.returns-then-not-holds
 returns-then-not-holds c =
     let a = c.args in
@@ -74,12 +69,6 @@ returns-then-not-holds c =
       starts = whole.1.1.0;
       entries = whole.1.1.1;
     }
-
-pub overflow_cast-start : goal.overflow_cast-start
-overflow_cast-start c = omega (arith, c.type_inv.row_ptr c.args.r)
-
-pub overflow_cast-end : goal.overflow_cast-end
-overflow_cast-end c = omega (arith, c.type_inv.row_ptr (c.args.r + 1))
 
 pub take_inside-next-requires : goal.take_inside-next-requires
 take_inside-next-requires c =
@@ -102,9 +91,6 @@ write_pairs-pair-requires c =
     let rise = chosen-rise (region (goal.at.write_pairs-pair-requires c).Start) c.args.col_idx.now (start (goal.at.write_pairs-pair-requires c).Start) (end (goal.at.write_pairs-pair-requires c).Start) c.args.at c.args.most _ c.args.sources.now _ (up (goal.at.write_pairs-pair-requires c).Start) (within (goal.at.write_pairs-pair-requires c).Start) put c.take_inside-next.ensures.value (c.rises.ensures c.if-rises.true) in
     let wide = ap length (same (goal.at.write_pairs-pair-requires c).Start) in
     (q.2.mask, q.2.ranks_at, q.2.ranks_long, up (goal.at.write_pairs-pair-requires c).Start, within (goal.at.write_pairs-pair-requires c).Start, q.1.few_entries, q.1.inside, c.take_inside-next.ensures.value, omega (arith, ends (goal.at.write_pairs-pair-requires c).After-take_inside-next, put.long, q.5.inside), omega (arith, ends (goal.at.write_pairs-pair-requires c).After-take_inside-next, q.5.small), put.here, rise, omega (arith, wide, q.5.pairs), omega (arith, wide, q.5.pointers))
-
-pub shape_of-sources-then-rises : goal.shape_of-sources-then-rises
-shape_of-sources-then-rises c = c.take_inside-next.ensures.put.long
 
 pub returns-then-rises : goal.returns-then-rises
 returns-then-rises c =
@@ -136,31 +122,28 @@ write_counted-all-requires c =
     (up (goal.at.write_counted-all-requires c).Start, within (goal.at.write_counted-all-requires c).Start, q.1.few_entries, row-local a.n a.region.now a.ranks.now a.nodes.now q.2 (pairs (goal.at.write_counted-all-requires c).Start) a.r a.first a.local_cols.now _ q.5.pairs put _ (last (goal.at.write_counted-all-requires c).After-write_row-last), omega (arith, last (goal.at.write_counted-all-requires c).After-write_row-last, q.5.pointers), omega (arith, ap length joined, q.5.within, q.5.inside, c.take_inside-next.ensures.put.long), omega (arith, ap length joined, q.5.within, q.5.small))
 
 -- what the counting wrote
-module _ (c : After-slice_known-7-1) where
+module _ (c : After-write_counted-all) where
   abbrev b : Start
-  b = (goal.at.After-slice_known-7-1 c).Start
+  b = (goal.at.After-write_counted-all c).Start
 
   joined : join_below (c.write_row-last.result - b.args.first) (pair_at b.args.col_idx.now (start b) (end b) b.args.nodes.now c.write_row-last.new.cols b.args.first) ≡ join_below (length (columns b)) (row_entries b.args.n (region b) (pairs b) b.args.row_ptr.now b.args.col_idx.now b.args.r)
-  joined = row-joined b.args.n b.args.region.now b.args.ranks.now b.args.nodes.now b.requires.2 (pairs b) b.args.r b.args.first b.args.local_cols.now _ b.requires.5.pairs c.write_row-last.ensures.cols_after _ (last (goal.at.After-slice_known-7-1 c).After-write_row-last) b.args.col_idx.now (start b) (end b)
+  joined = row-joined b.args.n b.args.region.now b.args.ranks.now b.args.nodes.now b.requires.2 (pairs b) b.args.r b.args.first b.args.local_cols.now _ b.requires.5.pairs c.write_row-last.ensures.cols_after _ (last (goal.at.After-write_counted-all c).After-write_row-last) b.args.col_idx.now (start b) (end b)
 
   ended : ends_from b.args.at (c.write_row-last.result - b.args.first) (pair_at b.args.col_idx.now (start b) (end b) b.args.nodes.now c.write_row-last.new.cols b.args.first) ≡ ends_from b.args.at (length (columns b)) (row_entries b.args.n (region b) (pairs b) b.args.row_ptr.now b.args.col_idx.now b.args.r)
-  ended = row-ended b.args.n b.args.region.now b.args.ranks.now b.args.nodes.now b.requires.2 (pairs b) b.args.r b.args.first b.args.local_cols.now _ b.requires.5.pairs c.write_row-last.ensures.cols_after _ (last (goal.at.After-slice_known-7-1 c).After-write_row-last) b.args.col_idx.now (start b) (end b) b.args.at
+  ended = row-ended b.args.n b.args.region.now b.args.ranks.now b.args.nodes.now b.requires.2 (pairs b) b.args.r b.args.first b.args.local_cols.now _ b.requires.5.pairs c.write_row-last.ensures.cols_after _ (last (goal.at.After-write_counted-all c).After-write_row-last) b.args.col_idx.now (start b) (end b) b.args.at
 
   rest : Put b.args.at b.args.most (join_below (length (columns b)) (row_entries b.args.n (region b) (pairs b) b.args.row_ptr.now b.args.col_idx.now b.args.r)) b.args.sources.now c.write_counted-all.new.sources
   rest =
       put-placed b.args.at b.args.most (chosen b) _ b.args.sources.now c.take_inside-next.new.sources c.write_counted-all.new.sources b.requires.5.within b.requires.5.inside c.take_inside-next.ensures.put
       (c.write_counted-all.ensures.sources_after ∙ ap (λ (l : List ℕ). placed b.args.at l c.take_inside-next.new.sources) joined)
 
-pub shape_of-sources : goal.shape_of-sources
-shape_of-sources c = (rest (goal.at.shape_of-sources c).After-slice_known-7-1).long
-
 pub returns : goal.returns
 returns c =
     let a = c.args in
     let put = c.write_row-last.ensures.cols_after in
     let g = c.write_counted-all.ensures in record {
-      pair_value = (last (goal.at.returns c).After-write_row-last, g.value ∙ ap (λ (l : List ℕ). a.at + length l) (joined (goal.at.returns c).After-slice_known-7-1));
+      pair_value = (last (goal.at.returns c).After-write_row-last, g.value ∙ ap (λ (l : List ℕ). a.at + length l) (joined (goal.at.returns c).After-write_counted-all));
       columns = put;
-      starts = g.source_ptr_after ∙ ap (λ (l : List ℕ). placed (a.first + 1) l a.source_ptr.now) (ended (goal.at.returns c).After-slice_known-7-1);
-      entries = rest (goal.at.returns c).After-slice_known-7-1;
+      starts = g.source_ptr_after ∙ ap (λ (l : List ℕ). placed (a.first + 1) l a.source_ptr.now) (ended (goal.at.returns c).After-write_counted-all);
+      entries = rest (goal.at.returns c).After-write_counted-all;
     }

@@ -6,7 +6,7 @@ use lib.Dec.{T}
 use lib.ListN.{get_or, set, length-set}
 use Rattle.base.specs.Sets.{count_below}
 use Rattle.base.proofs.Lists.{over_first}
-use Rattle.base.proofs.Sets.{members-at, count-le, count-members}
+use Rattle.base.proofs.Sets.{members-at, count-members}
 use Rattle.csr32.specs.Matrix.{stored}
 use Rattle.mask.specs.Mask.{in_mask}
 use Rattle.side.specs.Side.{side_holds}
@@ -31,25 +31,10 @@ some c = omega (arith, c.loop-k-test.true, c.requires.4)
 node : (c : In-loop-k) → get_or c.args.nodes.now c.loop-k.k 0 ≡ member_at c.args.n (in_mask c.args.region.now) c.loop-k.k
 node c = c.requires.2.nodes_at c.loop-k.k (some c)
 
-pub bounds-local_ptr-0 : goal.bounds-local_ptr-0
-bounds-local_ptr-0 c = omega (arith, c.requires.5)
-
-pub bounds-source_ptr-0 : goal.bounds-source_ptr-0
-bounds-source_ptr-0 c = omega (arith, c.requires.7)
-
 pub loop-k-init : goal.loop-k-init
 loop-k-init c =
     let a = c.args in
     rows_none a.n (in_mask a.region.now) (side_holds a.row_word_ptr.now a.word_indices.now a.masks.now) a.row_ptr.now a.col_idx.now a.local_ptr.now a.local_cols.now a.source_ptr.now a.sources.now (omega (arith, c.requires.5)) (omega (arith, c.requires.7))
-
-pub offset_bounds-nodes-k : goal.offset_bounds-nodes-k
-offset_bounds-nodes-k c = omega (arith, some (goal.at.offset_bounds-nodes-k c).In-loop-k, c.requires.2.nodes_long)
-
-pub bounds-nodes-k : goal.bounds-nodes-k
-bounds-nodes-k c = omega (arith, some (goal.at.bounds-nodes-k c).In-loop-k, c.requires.2.nodes_long)
-
-pub overflow_cast-nodes : goal.overflow_cast-nodes
-overflow_cast-nodes c = omega (arith, c.type_inv.nodes c.loop-k.k)
 
 pub write_row-end-requires : goal.write_row-end-requires
 write_row-end-requires c =
@@ -68,13 +53,10 @@ write_row-end-requires c =
       low,
       λ x h t. bound a.n p s (stored a.row_ptr.now a.col_idx.now) q.3 _ x low member h t,
       subst (λ (x : ℕ). RowRoom (columns_of a.n p s (get_or a.nodes.now l.k 0)) (row_entries a.n p s a.row_ptr.now a.col_idx.now (get_or a.nodes.now l.k 0)) l.pair l.source x l.local_cols l.source_ptr l.sources) (sym q.8)
-          (rows_room a.n p s a.row_ptr.now a.col_idx.now (set a.local_ptr.now 0 0) a.local_cols.now (set a.source_ptr.now 0 0) a.sources.now l.local_ptr l.local_cols l.source_ptr l.sources l.pair l.source l.k l.invariant (some (goal.at.write_row-end-requires c).In-loop-k) _ d q.6 (omega (arith, q.7, length-set a.source_ptr.now 0 0)) (omega (arith, q.8, q.9)) (sources-within a.n p s a.row_ptr.now a.col_idx.now q.1 q.3)),
+          (rows_room a.n p s a.row_ptr.now a.col_idx.now (set a.local_ptr.now 0 0) a.local_cols.now (set a.source_ptr.now 0 0) a.sources.now l.local_ptr l.local_cols l.source_ptr l.sources l.pair l.source l.k l.invariant (some (goal.at.write_row-end-requires c).In-loop-k) _ d (omega (arith, q.6)) (omega (arith, q.7, length-set a.source_ptr.now 0 0)) (omega (arith, q.8, q.9)) (sources-within a.n p s a.row_ptr.now a.col_idx.now q.1 q.3)),
       q.10,
       member,
     )
-
-pub overflow_add-k : goal.overflow_add-k
-overflow_add-k c = omega (arith, some (goal.at.overflow_add-k c).In-loop-k, count-le c.args.n (in_mask c.args.region.now), c.requires.1.few_rows)
 
 pub overflow_cast-local_ptr : goal.overflow_cast-local_ptr
 overflow_cast-local_ptr c =
@@ -86,18 +68,9 @@ overflow_cast-local_ptr c =
     omega (
       arith,
       c.write_row-end.ensures.pair_value.0,
-      rows_pairs a.n p s a.row_ptr.now a.col_idx.now (set a.local_ptr.now 0 0) a.local_cols.now (set a.source_ptr.now 0 0) a.sources.now l.local_ptr l.local_cols l.source_ptr l.sources l.pair l.source l.k l.invariant (some (goal.at.overflow_cast-local_ptr c).In-loop-k) _ (node (goal.at.overflow_cast-local_ptr c).In-loop-k) q.6 (omega (arith, q.7, length-set a.source_ptr.now 0 0)) (omega (arith, q.8, q.9)),
+      rows_pairs a.n p s a.row_ptr.now a.col_idx.now (set a.local_ptr.now 0 0) a.local_cols.now (set a.source_ptr.now 0 0) a.sources.now l.local_ptr l.local_cols l.source_ptr l.sources l.pair l.source l.k l.invariant (some (goal.at.overflow_cast-local_ptr c).In-loop-k) _ (node (goal.at.overflow_cast-local_ptr c).In-loop-k),
       (kept_small a.n a.row_word_ptr.now a.word_indices.now a.masks.now q.0 p).few_kept,
     )
-
-pub offset_bounds-local_ptr-k : goal.offset_bounds-local_ptr-k
-offset_bounds-local_ptr-k c = omega (arith, some (goal.at.offset_bounds-local_ptr-k c).In-loop-k, count-le c.args.n (in_mask c.args.region.now), c.requires.1.few_rows)
-
-pub bounds-local_ptr-k : goal.bounds-local_ptr-k
-bounds-local_ptr-k c = omega (arith, c.loop-k-test.true, c.requires.5, c.loop-k.invariant.lptr_long, length-set c.args.local_ptr.now 0 0)
-
-pub loop-k-smaller : goal.loop-k-smaller
-loop-k-smaller c = omega (arith, c.loop-k-test.true)
 
 pub loop-k-preserved : goal.loop-k-preserved
 loop-k-preserved c =
@@ -107,19 +80,7 @@ loop-k-preserved c =
     let p = in_mask a.region.now in
     let s = side_holds a.row_word_ptr.now a.word_indices.now a.masks.now in
     let g = c.write_row-end.ensures in
-    rows_next a.n p s a.row_ptr.now a.col_idx.now (set a.local_ptr.now 0 0) a.local_cols.now (set a.source_ptr.now 0 0) a.sources.now l.local_ptr l.local_cols l.source_ptr l.sources l.pair l.source l.k l.invariant (some (goal.at.loop-k-preserved c).In-loop-k) _ (node (goal.at.loop-k-preserved c).In-loop-k) q.6 (omega (arith, q.7, length-set a.source_ptr.now 0 0)) (omega (arith, q.8, q.9)) (omega (arith, q.4, q.5, length-set a.local_ptr.now 0 0)) _ q.8 _ _ _ _ _ g.pair_value.0 g.pair_value.1 g.columns g.starts g.entries
-
-pub shape_of-local_ptr : goal.shape_of-local_ptr
-shape_of-local_ptr c = c.loop-k.invariant.lptr_long ∙ length-set c.args.local_ptr.now 0 0
-
-pub shape_of-local_cols : goal.shape_of-local_cols
-shape_of-local_cols c = c.loop-k.invariant.lcols_long
-
-pub shape_of-source_ptr : goal.shape_of-source_ptr
-shape_of-source_ptr c = c.loop-k.invariant.sourced.ptr_long ∙ length-set c.args.source_ptr.now 0 0
-
-pub shape_of-sources : goal.shape_of-sources
-shape_of-sources c = c.loop-k.invariant.sourced.src_long
+    rows_next a.n p s a.row_ptr.now a.col_idx.now (set a.local_ptr.now 0 0) a.local_cols.now (set a.source_ptr.now 0 0) a.sources.now l.local_ptr l.local_cols l.source_ptr l.sources l.pair l.source l.k l.invariant (some (goal.at.loop-k-preserved c).In-loop-k) _ (node (goal.at.loop-k-preserved c).In-loop-k) (omega (arith, q.4, q.5, length-set a.local_ptr.now 0 0)) _ q.8 _ _ _ _ _ g.pair_value.0 g.pair_value.1 g.columns g.starts g.entries
 
 pub returns : goal.returns
 returns c =
@@ -128,7 +89,7 @@ returns c =
     let p = in_mask a.region.now in
     let s = side_holds a.row_word_ptr.now a.word_indices.now a.masks.now in
     let x = pair_entries a.n p s a.row_ptr.now a.col_idx.now in
-    let all = rows_all a.n p s a.row_ptr.now a.col_idx.now (set a.local_ptr.now 0 0) a.local_cols.now (set a.source_ptr.now 0 0) a.sources.now l.local_ptr l.local_cols l.source_ptr l.sources l.pair l.source l.k l.invariant (omega (arith, c.loop-k-test.false, c.requires.4)) (omega (arith, c.requires.8, c.requires.9)) in record {
+    let all = rows_all a.n p s a.row_ptr.now a.col_idx.now (set a.local_ptr.now 0 0) a.local_cols.now (set a.source_ptr.now 0 0) a.sources.now l.local_ptr l.local_cols l.source_ptr l.sources l.pair l.source l.k l.invariant (omega (arith, c.requires.4)) (omega (arith, c.requires.8, c.requires.9)) l.auto.sources in record {
       pointers = all.0 ∙ over_first (pattern_ptr a.n p s) a.local_ptr.now 0 (omega (arith, ptr-length a.n s p));
       columns = all.1;
       starts = all.2 ∙ over_first (plan_ptr x) a.source_ptr.now 0 (omega (arith, pointers-length x));

@@ -1,15 +1,12 @@
 -- `pattern::AbtmLocalSubmatrixPatternStats::structural_pruning_ratio` meets its contract. Assumes nothing.
 use mathlib.Core.Path.{sym, ap, ◌∙◌}
 use mathlib.Core.Bool.{Bool, cond}
-use borrow.Author.Tests.{eq-eqb, ne_eqb}
+use borrow.Author.Tests.{ne_eqb}
 use lib.Ieee.{Float, binary64, sub, of_bits}
 use Rattle.topology.specs.Statistics.{ratio}
 use Rattle.pattern.specs.Pattern.{one}
 use Rattle.topology.proofs.Ratios.{ratio-some}
 use Rattle.pattern.proofs.AbtmLocalSubmatrixPatternStats.structural_pruning_ratio.Goals as goal
-
-pub returns-then-self-eq0 : goal.returns-then-self-eq0
-returns-then-self-eq0 c = sym (ap (λ (b : Bool). cond b (of_bits binary64 0) (sub binary64 one (ratio c.args.self.kept_neighbor_bits c.args.self.candidate_neighbor_bits))) (eq-eqb _ 0 c.if-self-eq0.true))
 
 pub returns-else-self-eq0 : goal.returns-else-self-eq0
 unfolding of_bits

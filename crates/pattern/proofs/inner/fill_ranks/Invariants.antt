@@ -1,7 +1,6 @@
 -- `pattern::inner::fill_ranks` meets its contract. The invariant: the words before w are written, and their members counted. Assumes nothing.
 use mathlib.Core.Path.{◌≡◌}
-use Prim.Native.Nat.{◌-◌, ◌*◌, ◌≤◌}
-use lib.ListN.{length}
+use Prim.Native.Nat.{◌*◌}
 use Rattle.base.specs.Lists.{written}
 use Rattle.base.specs.Sets.{count_below}
 use Rattle.mask.specs.Mask.{in_mask}
@@ -9,7 +8,4 @@ use Rattle.pattern.specs.Steps.{ranks_of}
 use Rattle.pattern.proofs.inner.fill_ranks.Given as goal
 
 abbrev pub invariant-loop-w : goal.invariant-loop-w
-invariant-loop-w l = (l.w ≤ length l.region) × (length l.ranks ≡ length l.initial.ranks) × (l.before ≡ count_below (64 * l.w) (in_mask l.region)) × (l.ranks ≡ written l.w (ranks_of l.n (in_mask l.region)) l.initial.ranks)
-
-abbrev pub decreases-loop-w : goal.decreases-loop-w
-decreases-loop-w l = length l.region - l.w
+invariant-loop-w l = (l.before ≡ count_below (64 * l.w) (in_mask l.region)) × (l.ranks ≡ written l.w (ranks_of l.n (in_mask l.region)) l.initial.ranks)

@@ -1,13 +1,17 @@
--- `pattern::inner::write_row` meets its contract. The invariant: the columns of the words before k are written. Assumes nothing.
-use mathlib.Core.Path.{◌≡◌}
-use Prim.Native.Nat.{◌+◌, ◌-◌, ◌≤◌}
-use lib.ListN.{length}
+-- `pattern::inner::write_row` meets its contract. The invariant: the columns of the words from k on are still to come. Assumes nothing.
+use mathlib.Core.List.{map}
+use Prim.Native.Nat.{◌+◌, ◌-◌}
 use Rattle.base.specs.Lists.{join_below, placed}
-use Rattle.pattern.proofs.Rows.{kept_in, numbers_at}
+use Rattle.base.specs.Sets.{count_below}
+use Rattle.mask.specs.Mask.{in_mask}
+use Rattle.side.specs.Side.{side_holds}
+use Rattle.pattern.specs.Pattern.{number_of, inside, columns_of}
+use Rattle.pattern.proofs.Coming.{Coming}
+use Rattle.pattern.proofs.Rows.{numbers_at}
 use Rattle.pattern.proofs.inner.write_row.Given as goal
 
 abbrev pub invariant-loop-k : goal.invariant-loop-k
-invariant-loop-k l = (l.initial.k ≤ l.k) × (l.k ≤ l.to) × (length l.cols ≡ length l.initial.cols) × (l.next ≡ l.at + kept_in l.word_indices l.masks l.region l.initial.k l.k) × (l.cols ≡ placed l.at (join_below (l.k - l.initial.k) (numbers_at l.word_indices l.masks l.region l.initial.k)) l.initial.cols)
-
-abbrev pub decreases-loop-k : goal.decreases-loop-k
-decreases-loop-k l = l.to - l.k
+invariant-loop-k l =
+    Coming (l.at + count_below l.n (inside (in_mask l.region) (side_holds l.row_word_ptr l.word_indices l.masks) l.r))
+    (placed l.at (map (number_of (in_mask l.region)) (columns_of l.n (in_mask l.region) (side_holds l.row_word_ptr l.word_indices l.masks) l.r)) l.initial.cols)
+    l.next (join_below (l.k-end - l.k) (numbers_at l.word_indices l.masks l.region l.k)) l.cols

@@ -1,12 +1,14 @@
 -- `peak_job::inner::ask` meets its contract. Assumes nothing.
 use mathlib.Core.Path.{◌≡◌, sym, ap, ap₂, ◌∙◌}
+use Rattle.std.specs.Prelude.{Ok, Err}
+use Rattle.base.specs.Checks.{Check}
+use Rattle.base.specs.declared.Refusal.TheVariants.{OutOfRange}
 use mathlib.Core.List.{List}
 use Prim.Native.Nat.{ℕ, ◌-◌}
 use native.Mathlib.Omega.{arith}
 use lib.ListN.{take, replicate, length-replicate}
 use Rattle.base.specs.Checks.{must}
 use Rattle.base.specs.Lists.{every, below, is_in}
-use Rattle.base.specs.declared.Checked.{Checked}
 use Rattle.base.proofs.Lists.{over-own}
 use Rattle.mask.specs.Mask.{words_needed, mask_words, mask_check}
 use Rattle.mask.specs.Answers.{from_check}
@@ -24,34 +26,34 @@ unfolding seed_words
 lay_out-requires c =
     let j : Job = (record { size = c.args.size; blocks = c.args.blocks.now; ptr = c.args.ptr.now; cols = c.args.cols.now; seeds = c.args.seeds.now; hops = c.args.hops }) in
     let z : List ℕ = replicate {A = ℕ} 4 0 in
-    let only : from_check j.size j.seeds z ≡ must (every (below j.size) j.seeds) 13 = from_is j.size j.seeds z c.requires.0 (omega (arith, length-replicate {A = ℕ} 4 0)) in
+    let only : from_check j.size j.seeds z ≡ must (every (below j.size) j.seeds) OutOfRange = from_is j.size j.seeds z c.requires.0 (omega (arith, length-replicate {A = ℕ} 4 0)) in
     let w = c.from_indices in
-    let ok : from_check j.size j.seeds z ≡ Checked.Accepted = sym w.ensures.value ∙ c.in-Accepted.is in
+    let ok : from_check j.size j.seeds z ≡ (Ok tt) = sym w.ensures.value ∙ c.in-Ok.is in
     let none : c.words_for-need.result - 0 ≡ words_needed j.size = omega (arith, c.words_for-need.ensures) in
     let part : take (c.words_for-need.result - 0) w.new.out ≡ seed_words j =
     ap₂ (λ (m : ℕ) (l : List ℕ). take m l) none (left_is _ _ _ _ w.ensures.out_after ok) ∙ over-own (mask_words j.size (λ i. is_in i j.seeds)) z (words_needed j.size) (mask-length j.size (λ i. is_in i j.seeds)) in
     (c.requires.0, c.requires.1, c.requires.2, ap (mask_check j.size) part ∙ mask-accepted j.size (λ i. is_in i j.seeds) (omega (arith, c.requires.0)))
 
-pub returns-in-Refused : goal.returns-in-Refused
-returns-in-Refused c =
+pub returns-in-Err : goal.returns-in-Err
+returns-in-Err c =
     let j : Job = (record { size = c.args.size; blocks = c.args.blocks.now; ptr = c.args.ptr.now; cols = c.args.cols.now; seeds = c.args.seeds.now; hops = c.args.hops }) in
     let z : List ℕ = replicate {A = ℕ} 4 0 in
-    let only : from_check j.size j.seeds z ≡ must (every (below j.size) j.seeds) 13 = from_is j.size j.seeds z c.requires.0 (omega (arith, length-replicate {A = ℕ} 4 0)) in
+    let only : from_check j.size j.seeds z ≡ must (every (below j.size) j.seeds) OutOfRange = from_is j.size j.seeds z c.requires.0 (omega (arith, length-replicate {A = ℕ} 4 0)) in
     let w = c.from_indices in
-    let e : ask_check j ≡ Checked.Refused _ = ask-stop j _ (sym only ∙ sym w.ensures.value ∙ c.in-Refused.is) in
-    let same = sym (ap (λ (x : Checked). text_of x (result_text j)) e) in record {
+    let e : ask_check j ≡ Err _ = ask-stop j _ (sym only ∙ sym w.ensures.value ∙ c.in-Err.is) in
+    let same = sym (ap (λ (x : Check). text_of x (result_text j)) e) in record {
       value = c.refuse.ensures.value ∙ ap (λ (x : List ℕ). text_answer x c.args.out.now) same;
       out_after = c.refuse.ensures.out_after ∙ ap (λ (x : List ℕ). text_left x c.args.out.now) same;
     }
 
-pub returns-in-Accepted : goal.returns-in-Accepted
+pub returns-in-Ok : goal.returns-in-Ok
 unfolding seed_words result_text
-returns-in-Accepted c =
+returns-in-Ok c =
     let j : Job = (record { size = c.args.size; blocks = c.args.blocks.now; ptr = c.args.ptr.now; cols = c.args.cols.now; seeds = c.args.seeds.now; hops = c.args.hops }) in
     let z : List ℕ = replicate {A = ℕ} 4 0 in
-    let only : from_check j.size j.seeds z ≡ must (every (below j.size) j.seeds) 13 = from_is j.size j.seeds z c.requires.0 (omega (arith, length-replicate {A = ℕ} 4 0)) in
+    let only : from_check j.size j.seeds z ≡ must (every (below j.size) j.seeds) OutOfRange = from_is j.size j.seeds z c.requires.0 (omega (arith, length-replicate {A = ℕ} 4 0)) in
     let w = c.from_indices in
-    let ok : from_check j.size j.seeds z ≡ Checked.Accepted = sym w.ensures.value ∙ c.in-Accepted.is in
+    let ok : from_check j.size j.seeds z ≡ (Ok tt) = sym w.ensures.value ∙ c.in-Ok.is in
     let none : c.words_for-need.result - 0 ≡ words_needed j.size = omega (arith, c.words_for-need.ensures) in
     let part : take (c.words_for-need.result - 0) w.new.out ≡ seed_words j =
     ap₂ (λ (m : ℕ) (l : List ℕ). take m l) none (left_is _ _ _ _ w.ensures.out_after ok) ∙ over-own (mask_words j.size (λ i. is_in i j.seeds)) z (words_needed j.size) (mask-length j.size (λ i. is_in i j.seeds)) in

@@ -1,5 +1,6 @@
 -- `peak_job::inner::lay_out` meets its contract. Assumes nothing.
 use mathlib.Core.Path.{◌≡◌, ap, ap₂, ◌∙◌}
+use Rattle.base.specs.Checks.{Check}
 use mathlib.Core.List.{List}
 use Prim.Native.Nat.{ℕ, suc, ◌+◌, ◌-◌}
 use native.Mathlib.Omega.{arith}
@@ -7,7 +8,6 @@ use lib.Ieee.{of_bits}
 use lib.ListN.{length, take, replicate, length-replicate}
 use Rattle.base.specs.Checks.{◌then◌}
 use Rattle.base.specs.Lists.{list_from}
-use Rattle.base.specs.declared.Checked.{Checked}
 use Rattle.base.proofs.Lists.{over-own, take-replicate, take-list_from}
 use Rattle.csr32.specs.Matrix.{matrix_check}
 use Rattle.dof_layout.specs.Layout.{offsets_of}
@@ -46,6 +46,6 @@ returns c =
     let same : (matrix_check n n ptr cols (take (length cols - 0) (replicate 1024 one)) then square_check (take (B - 0) (replicate {A = ℕ} 1024 1)) (take (B - 0) c.number.new.ids) (take (B - 0) (replicate {A = ℕ} 1024 0)) blocks (take (B + 1 - 0) c.write_offsets.new.out) n n) ≡ laid_check n blocks ptr cols =
     λ j. matrix_check n n ptr cols (v j) then square_check (k j) (i j) (f j) blocks (o j) n n in
     let t : List ℕ = region_text n ptr cols blocks c.args.words.now c.args.hops in record {
-      value = c.cut.ensures.value ∙ ap (λ (x : Checked). text_answer (text_of x t) c.args.out.now) same;
-      out_after = c.cut.ensures.out_after ∙ ap (λ (x : Checked). text_left (text_of x t) c.args.out.now) same;
+      value = c.cut.ensures.value ∙ ap (λ (x : Check). text_answer (text_of x t) c.args.out.now) same;
+      out_after = c.cut.ensures.out_after ∙ ap (λ (x : Check). text_left (text_of x t) c.args.out.now) same;
     }

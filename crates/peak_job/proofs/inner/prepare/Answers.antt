@@ -1,12 +1,13 @@
 -- `peak_job::inner::prepare` meets its contract. Assumes nothing.
 use mathlib.Core.Path.{◌≡◌, sym, ap, ◌∙◌}
+use Rattle.std.specs.Prelude.{Ok, Err}
+use Rattle.base.specs.Checks.{Check}
 use mathlib.Core.List.{List}
 use Prim.Native.Nat.{ℕ, ◌≤◌}
 use native.Mathlib.Omega.{arith}
 use lib.ListN.{length}
 use Rattle.base.specs.Checks.{◌then◌}
 use Rattle.base.specs.Lists.{over}
-use Rattle.base.specs.declared.Checked.{Checked}
 use Rattle.base.proofs.Sets.{count-le}
 use Rattle.mask.specs.Mask.{words_needed}
 use Rattle.csr32.specs.Matrix.{matrix_check}
@@ -24,14 +25,14 @@ use Rattle.peak_job.proofs.inner.prepare.Goals as goal
 pub report-requires : goal.report-requires
 report-requires c =
     let n = c.args.size in
-    let M : Checked = matrix_check n n c.args.ptr.now c.args.cols.now c.args.values.now in
-    let Q : Checked = square_check c.args.kinds.now c.args.ids.now c.args.fields.now c.args.blocks.now c.args.offsets.now n n in
-    let R : Checked = prepare_room n n (length c.args.cols.now) (length c.args.row_word_ptr.now) (length c.args.row_word_indices.now) (length c.args.row_masks.now) (length c.args.column_word_ptr.now) (length c.args.column_word_indices.now) (length c.args.column_masks.now) (length c.args.starts.now) (length c.args.order.now) (length c.args.region.now) (length c.args.frontier.now) (length c.args.scratch.now) (length c.args.members.now) (length c.args.local_ptr.now) (length c.args.local_cols.now) (length c.args.source_ptr.now) (length c.args.sources.now) in
-    let room : R ≡ Checked.Accepted = room-enough n (length c.args.cols.now) c.args.row_word_ptr.now c.args.row_word_indices.now c.args.row_masks.now c.args.column_word_ptr.now c.args.column_word_indices.now c.args.column_masks.now c.args.starts.now c.args.order.now c.args.region.now c.args.frontier.now c.args.scratch.now c.args.members.now c.args.local_ptr.now c.args.local_cols.now c.args.source_ptr.now c.args.sources.now c.requires.0 c.requires.1 c.requires.3 in
+    let M : Check = matrix_check n n c.args.ptr.now c.args.cols.now c.args.values.now in
+    let Q : Check = square_check c.args.kinds.now c.args.ids.now c.args.fields.now c.args.blocks.now c.args.offsets.now n n in
+    let R : Check = prepare_room n n (length c.args.cols.now) (length c.args.row_word_ptr.now) (length c.args.row_word_indices.now) (length c.args.row_masks.now) (length c.args.column_word_ptr.now) (length c.args.column_word_indices.now) (length c.args.column_masks.now) (length c.args.starts.now) (length c.args.order.now) (length c.args.region.now) (length c.args.frontier.now) (length c.args.scratch.now) (length c.args.members.now) (length c.args.local_ptr.now) (length c.args.local_cols.now) (length c.args.source_ptr.now) (length c.args.sources.now) in
+    let room : R ≡ (Ok tt) = room-enough n (length c.args.cols.now) c.args.row_word_ptr.now c.args.row_word_indices.now c.args.row_masks.now c.args.column_word_ptr.now c.args.column_word_indices.now c.args.column_masks.now c.args.starts.now c.args.order.now c.args.region.now c.args.frontier.now c.args.scratch.now c.args.members.now c.args.local_ptr.now c.args.local_cols.now c.args.source_ptr.now c.args.sources.now c.requires.0 c.requires.1 c.requires.3 in
     let both : prepare_check (prepare_inputs M Q n n c.args.words.now) R ≡ (M then Q) = check-is M Q R n c.args.words.now c.requires.2 room in
     let r = c.prepare_region in
-    let a = prepared _ _ _ _ r.ensures.value c.in-Prepared.is in
-    let ok : (M then Q) ≡ Checked.Accepted = sym both ∙ a.0 in
+    let a = prepared _ _ _ _ r.ensures.value c.in-Ok.is in
+    let ok : (M then Q) ≡ (Ok tt) = sym both ∙ a.0 in
     let i = (accepted-inputs n n c.args.ptr.now c.args.cols.now c.args.values.now c.args.kinds.now c.args.ids.now c.args.fields.now c.args.blocks.now c.args.offsets.now n c.args.words.now (λ k. (c.type_inv.words k).fits) (inputs-pass M Q n c.args.words.now c.requires.2 ok)).0 in
     let P = region_of c.args.ptr.now c.args.cols.now c.args.blocks.now c.args.words.now c.args.hops in
     let g = network_of c.args.ptr.now c.args.cols.now c.args.blocks.now in
@@ -52,114 +53,33 @@ report-requires c =
       omega (arith, pairs, k, c.requires.1, c.requires.3.local_columns, r.auto.local_col_idx),
     )
 
-pub shape_of-row_word_ptr-in-Refused : goal.shape_of-row_word_ptr-in-Refused
-shape_of-row_word_ptr-in-Refused c = c.prepare_region.auto.row_word_ptr
-
-pub shape_of-row_word_indices-in-Refused : goal.shape_of-row_word_indices-in-Refused
-shape_of-row_word_indices-in-Refused c = c.prepare_region.auto.row_word_indices
-
-pub shape_of-row_masks-in-Refused : goal.shape_of-row_masks-in-Refused
-shape_of-row_masks-in-Refused c = c.prepare_region.auto.row_masks
-
-pub shape_of-column_word_ptr-in-Refused : goal.shape_of-column_word_ptr-in-Refused
-shape_of-column_word_ptr-in-Refused c = c.prepare_region.auto.column_word_ptr
-
-pub shape_of-column_word_indices-in-Refused : goal.shape_of-column_word_indices-in-Refused
-shape_of-column_word_indices-in-Refused c = c.prepare_region.auto.column_word_indices
-
-pub shape_of-column_masks-in-Refused : goal.shape_of-column_masks-in-Refused
-shape_of-column_masks-in-Refused c = c.prepare_region.auto.column_masks
-
-pub shape_of-starts-in-Refused : goal.shape_of-starts-in-Refused
-shape_of-starts-in-Refused c = c.prepare_region.auto.starts
-
-pub shape_of-order-in-Refused : goal.shape_of-order-in-Refused
-shape_of-order-in-Refused c = c.prepare_region.auto.order
-
-pub shape_of-region-in-Refused : goal.shape_of-region-in-Refused
-shape_of-region-in-Refused c = c.prepare_region.auto.region
-
-pub shape_of-frontier-in-Refused : goal.shape_of-frontier-in-Refused
-shape_of-frontier-in-Refused c = c.prepare_region.auto.frontier
-
-pub shape_of-scratch-in-Refused : goal.shape_of-scratch-in-Refused
-shape_of-scratch-in-Refused c = c.prepare_region.auto.scratch
-
-pub shape_of-members-in-Refused : goal.shape_of-members-in-Refused
-shape_of-members-in-Refused c = c.prepare_region.auto.global_nodes
-
-pub shape_of-local_ptr-in-Refused : goal.shape_of-local_ptr-in-Refused
-shape_of-local_ptr-in-Refused c = c.prepare_region.auto.local_row_ptr
-
-pub returns-in-Refused : goal.returns-in-Refused
-returns-in-Refused c =
+pub returns-in-Err : goal.returns-in-Err
+returns-in-Err c =
     let n = c.args.size in
-    let M : Checked = matrix_check n n c.args.ptr.now c.args.cols.now c.args.values.now in
-    let Q : Checked = square_check c.args.kinds.now c.args.ids.now c.args.fields.now c.args.blocks.now c.args.offsets.now n n in
-    let R : Checked = prepare_room n n (length c.args.cols.now) (length c.args.row_word_ptr.now) (length c.args.row_word_indices.now) (length c.args.row_masks.now) (length c.args.column_word_ptr.now) (length c.args.column_word_indices.now) (length c.args.column_masks.now) (length c.args.starts.now) (length c.args.order.now) (length c.args.region.now) (length c.args.frontier.now) (length c.args.scratch.now) (length c.args.members.now) (length c.args.local_ptr.now) (length c.args.local_cols.now) (length c.args.source_ptr.now) (length c.args.sources.now) in
-    let room : R ≡ Checked.Accepted = room-enough n (length c.args.cols.now) c.args.row_word_ptr.now c.args.row_word_indices.now c.args.row_masks.now c.args.column_word_ptr.now c.args.column_word_indices.now c.args.column_masks.now c.args.starts.now c.args.order.now c.args.region.now c.args.frontier.now c.args.scratch.now c.args.members.now c.args.local_ptr.now c.args.local_cols.now c.args.source_ptr.now c.args.sources.now c.requires.0 c.requires.1 c.requires.3 in
+    let M : Check = matrix_check n n c.args.ptr.now c.args.cols.now c.args.values.now in
+    let Q : Check = square_check c.args.kinds.now c.args.ids.now c.args.fields.now c.args.blocks.now c.args.offsets.now n n in
+    let R : Check = prepare_room n n (length c.args.cols.now) (length c.args.row_word_ptr.now) (length c.args.row_word_indices.now) (length c.args.row_masks.now) (length c.args.column_word_ptr.now) (length c.args.column_word_indices.now) (length c.args.column_masks.now) (length c.args.starts.now) (length c.args.order.now) (length c.args.region.now) (length c.args.frontier.now) (length c.args.scratch.now) (length c.args.members.now) (length c.args.local_ptr.now) (length c.args.local_cols.now) (length c.args.source_ptr.now) (length c.args.sources.now) in
+    let room : R ≡ (Ok tt) = room-enough n (length c.args.cols.now) c.args.row_word_ptr.now c.args.row_word_indices.now c.args.row_masks.now c.args.column_word_ptr.now c.args.column_word_indices.now c.args.column_masks.now c.args.starts.now c.args.order.now c.args.region.now c.args.frontier.now c.args.scratch.now c.args.members.now c.args.local_ptr.now c.args.local_cols.now c.args.source_ptr.now c.args.sources.now c.requires.0 c.requires.1 c.requires.3 in
     let both : prepare_check (prepare_inputs M Q n n c.args.words.now) R ≡ (M then Q) = check-is M Q R n c.args.words.now c.requires.2 room in
     let r = c.prepare_region in
-    let e : (M then Q) ≡ Checked.Refused _ = sym both ∙ refused _ _ _ _ r.ensures.value c.in-Refused.is in
+    let e : (M then Q) ≡ Err _ = sym both ∙ refused _ _ _ _ r.ensures.value c.in-Err.is in
     let t : List ℕ = region_text n c.args.ptr.now c.args.cols.now c.args.blocks.now c.args.words.now c.args.hops in
-    let same = sym (ap (λ (x : Checked). text_of x t) e) in record {
+    let same = sym (ap (λ (x : Check). text_of x t) e) in record {
       value = c.refuse.ensures.value ∙ ap (λ (x : List ℕ). text_answer x c.args.out.now) same;
       out_after = c.refuse.ensures.out_after ∙ ap (λ (x : List ℕ). text_left x c.args.out.now) same;
     }
 
-pub shape_of-row_word_ptr-in-Prepared : goal.shape_of-row_word_ptr-in-Prepared
-shape_of-row_word_ptr-in-Prepared c = c.prepare_region.auto.row_word_ptr
-
-pub shape_of-row_word_indices-in-Prepared : goal.shape_of-row_word_indices-in-Prepared
-shape_of-row_word_indices-in-Prepared c = c.prepare_region.auto.row_word_indices
-
-pub shape_of-row_masks-in-Prepared : goal.shape_of-row_masks-in-Prepared
-shape_of-row_masks-in-Prepared c = c.prepare_region.auto.row_masks
-
-pub shape_of-column_word_ptr-in-Prepared : goal.shape_of-column_word_ptr-in-Prepared
-shape_of-column_word_ptr-in-Prepared c = c.prepare_region.auto.column_word_ptr
-
-pub shape_of-column_word_indices-in-Prepared : goal.shape_of-column_word_indices-in-Prepared
-shape_of-column_word_indices-in-Prepared c = c.prepare_region.auto.column_word_indices
-
-pub shape_of-column_masks-in-Prepared : goal.shape_of-column_masks-in-Prepared
-shape_of-column_masks-in-Prepared c = c.prepare_region.auto.column_masks
-
-pub shape_of-starts-in-Prepared : goal.shape_of-starts-in-Prepared
-shape_of-starts-in-Prepared c = c.prepare_region.auto.starts
-
-pub shape_of-order-in-Prepared : goal.shape_of-order-in-Prepared
-shape_of-order-in-Prepared c = c.prepare_region.auto.order
-
-pub shape_of-region-in-Prepared : goal.shape_of-region-in-Prepared
-shape_of-region-in-Prepared c = c.prepare_region.auto.region
-
-pub shape_of-frontier-in-Prepared : goal.shape_of-frontier-in-Prepared
-shape_of-frontier-in-Prepared c = c.prepare_region.auto.frontier
-
-pub shape_of-scratch-in-Prepared : goal.shape_of-scratch-in-Prepared
-shape_of-scratch-in-Prepared c = c.prepare_region.auto.scratch
-
-pub shape_of-members-in-Prepared : goal.shape_of-members-in-Prepared
-shape_of-members-in-Prepared c = c.prepare_region.auto.global_nodes
-
-pub shape_of-local_ptr-in-Prepared : goal.shape_of-local_ptr-in-Prepared
-shape_of-local_ptr-in-Prepared c = c.prepare_region.auto.local_row_ptr
-
-pub shape_of-local_cols-in-Prepared : goal.shape_of-local_cols-in-Prepared
-shape_of-local_cols-in-Prepared c = c.prepare_region.auto.local_col_idx
-
-pub returns-in-Prepared : goal.returns-in-Prepared
-returns-in-Prepared c =
+pub returns-in-Ok : goal.returns-in-Ok
+returns-in-Ok c =
     let n = c.args.size in
-    let M : Checked = matrix_check n n c.args.ptr.now c.args.cols.now c.args.values.now in
-    let Q : Checked = square_check c.args.kinds.now c.args.ids.now c.args.fields.now c.args.blocks.now c.args.offsets.now n n in
-    let R : Checked = prepare_room n n (length c.args.cols.now) (length c.args.row_word_ptr.now) (length c.args.row_word_indices.now) (length c.args.row_masks.now) (length c.args.column_word_ptr.now) (length c.args.column_word_indices.now) (length c.args.column_masks.now) (length c.args.starts.now) (length c.args.order.now) (length c.args.region.now) (length c.args.frontier.now) (length c.args.scratch.now) (length c.args.members.now) (length c.args.local_ptr.now) (length c.args.local_cols.now) (length c.args.source_ptr.now) (length c.args.sources.now) in
-    let room : R ≡ Checked.Accepted = room-enough n (length c.args.cols.now) c.args.row_word_ptr.now c.args.row_word_indices.now c.args.row_masks.now c.args.column_word_ptr.now c.args.column_word_indices.now c.args.column_masks.now c.args.starts.now c.args.order.now c.args.region.now c.args.frontier.now c.args.scratch.now c.args.members.now c.args.local_ptr.now c.args.local_cols.now c.args.source_ptr.now c.args.sources.now c.requires.0 c.requires.1 c.requires.3 in
+    let M : Check = matrix_check n n c.args.ptr.now c.args.cols.now c.args.values.now in
+    let Q : Check = square_check c.args.kinds.now c.args.ids.now c.args.fields.now c.args.blocks.now c.args.offsets.now n n in
+    let R : Check = prepare_room n n (length c.args.cols.now) (length c.args.row_word_ptr.now) (length c.args.row_word_indices.now) (length c.args.row_masks.now) (length c.args.column_word_ptr.now) (length c.args.column_word_indices.now) (length c.args.column_masks.now) (length c.args.starts.now) (length c.args.order.now) (length c.args.region.now) (length c.args.frontier.now) (length c.args.scratch.now) (length c.args.members.now) (length c.args.local_ptr.now) (length c.args.local_cols.now) (length c.args.source_ptr.now) (length c.args.sources.now) in
+    let room : R ≡ (Ok tt) = room-enough n (length c.args.cols.now) c.args.row_word_ptr.now c.args.row_word_indices.now c.args.row_masks.now c.args.column_word_ptr.now c.args.column_word_indices.now c.args.column_masks.now c.args.starts.now c.args.order.now c.args.region.now c.args.frontier.now c.args.scratch.now c.args.members.now c.args.local_ptr.now c.args.local_cols.now c.args.source_ptr.now c.args.sources.now c.requires.0 c.requires.1 c.requires.3 in
     let both : prepare_check (prepare_inputs M Q n n c.args.words.now) R ≡ (M then Q) = check-is M Q R n c.args.words.now c.requires.2 room in
     let r = c.prepare_region in
-    let a = prepared _ _ _ _ r.ensures.value c.in-Prepared.is in
-    let ok : (M then Q) ≡ Checked.Accepted = sym both ∙ a.0 in
+    let a = prepared _ _ _ _ r.ensures.value c.in-Ok.is in
+    let ok : (M then Q) ≡ (Ok tt) = sym both ∙ a.0 in
     let i = (accepted-inputs n n c.args.ptr.now c.args.cols.now c.args.values.now c.args.kinds.now c.args.ids.now c.args.fields.now c.args.blocks.now c.args.offsets.now n c.args.words.now (λ k. (c.type_inv.words k).fits) (inputs-pass M Q n c.args.words.now c.requires.2 ok)).0 in
     let P = region_of c.args.ptr.now c.args.cols.now c.args.blocks.now c.args.words.now c.args.hops in
     let g = network_of c.args.ptr.now c.args.cols.now c.args.blocks.now in
@@ -170,7 +90,7 @@ returns-in-Prepared c =
     (ap (λ (x : PreparedFieldAwareLocalRegion). x.pattern.local_nodes) a.1) (ap (λ (x : PreparedFieldAwareLocalRegion). x.pattern.local_nnz) a.1) (ap (λ (x : PreparedFieldAwareLocalRegion). x.growth.hops_completed) a.1)
     r.new.global_nodes r.new.frontier r.new.local_row_ptr r.new.local_col_idx c.args.members.now old c.args.local_ptr.now c.args.local_cols.now
     (left_is _ _ _ _ r.ensures.members a.0) f (left_is _ _ _ _ r.ensures.pointers a.0) (left_is _ _ _ _ r.ensures.columns a.0) in
-    let whole = same ∙ sym (ap (λ (x : Checked). text_of x t) ok) in record {
+    let whole = same ∙ sym (ap (λ (x : Check). text_of x t) ok) in record {
       value = c.report.ensures.value ∙ ap (λ (x : List ℕ). text_answer x c.args.out.now) whole;
       out_after = c.report.ensures.out_after ∙ ap (λ (x : List ℕ). text_left x c.args.out.now) whole;
     }

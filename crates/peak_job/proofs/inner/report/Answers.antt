@@ -3,8 +3,7 @@ use mathlib.Core.Path.{◌≡◌, sym, ap, ap₂, ◌∙◌, subst}
 use mathlib.Core.List.{List}
 use Prim.Native.Nat.{ℕ, ◌+◌, ◌-◌, ◌≤◌}
 use native.Mathlib.Omega.{arith}
-use lib.ListN.{length, take, length-replicate, length-take}
-use lib.Seq.{length-take-le}
+use lib.ListN.{take, length-replicate}
 use Rattle.base.specs.Sets.{members_below}
 use Rattle.base.proofs.Lists.{over-own}
 use Rattle.base.proofs.Sets.{count-le, count-members}
@@ -12,12 +11,6 @@ use Rattle.mask.specs.Mask.{words_needed, in_mask, IsMask}
 use Rattle.job_text.specs.Answer.{result_lines, text_answer, text_left}
 use Rattle.peak_job.proofs.inner.report.Goals.{After-write_nodes-reached}
 use Rattle.peak_job.proofs.inner.report.Goals as goal
-
-pub words_for-need-requires : goal.words_for-need-requires
-words_for-need-requires c = omega (arith, c.requires.0)
-
-pub slice_bounds-write_nodes-end : goal.slice_bounds-write_nodes-end
-slice_bounds-write_nodes-end c = sym (length-take-le c.words_for-need.result c.args.frontier.now (omega (arith, c.words_for-need.ensures, c.requires.1)))
 
 pub write_nodes-reached-requires : goal.write_nodes-reached-requires
 write_nodes-reached-requires c =
@@ -30,26 +23,8 @@ write_nodes-reached-requires c =
 few : (c : After-write_nodes-reached) → c.write_nodes-reached.result ≤ 256
 few c = omega (arith, c.write_nodes-reached.ensures.value, count-le c.args.size (in_mask (take c.words_for-need.result c.args.frontier.now)), c.requires.0)
 
-pub slice_bounds-write_result-end : goal.slice_bounds-write_result-end
-slice_bounds-write_result-end c = sym (length-take-le c.args.inside c.args.members.now c.requires.5)
-
 pub slice_bounds-write_result-end-2 : goal.slice_bounds-write_result-end-2
 slice_bounds-write_result-end-2 c = omega (arith, few (goal.at.slice_bounds-write_result-end-2 c).After-write_nodes-reached, length-replicate {A = ℕ} 256 0, c.write_nodes-reached.auto.nodes)
-
-pub slice_bounds-write_result-end-3 : goal.slice_bounds-write_result-end-3
-slice_bounds-write_result-end-3 c = sym (length-take-le (c.args.inside + 1) c.args.local_ptr.now (omega (arith, c.requires.6)))
-
-pub slice_bounds-write_result-end-4 : goal.slice_bounds-write_result-end-4
-slice_bounds-write_result-end-4 c = sym (length-take-le c.args.pairs c.args.local_cols.now c.requires.7)
-
-pub write_result-requires : goal.write_result-requires
-write_result-requires c =
-    let w = c.write_nodes-reached in
-    let a = length-take-le c.args.inside c.args.members.now c.requires.5 in
-    let b : length (take (w.result - 0) w.new.nodes) ≤ w.result = omega (arith, length-take (w.result - 0) w.new.nodes) in
-    let d = length-take-le (c.args.inside + 1) c.args.local_ptr.now (omega (arith, c.requires.6)) in
-    let e = length-take-le c.args.pairs c.args.local_cols.now c.requires.7 in
-    (omega (arith, a, c.requires.3), omega (arith, b, few (goal.at.write_result-requires c).After-write_nodes-reached), omega (arith, d, c.requires.3), omega (arith, e, c.requires.4))
 
 pub returns : goal.returns
 returns c =

@@ -1,17 +1,18 @@
 -- `prepared_field_region::inner::check_room` meets its contract. Assumes nothing.
 use mathlib.Core.Path.{sym, ◌∙◌}
+use Rattle.base.proofs.Checks.{handed}
 use Rattle.base.proofs.Checks.{group-pass, group-stop}
 use Rattle.prepared_field_region.specs.Prepared.{prepare_room}
 use Rattle.prepared_field_region.proofs.inner.check_room.Goals as goal
 
-pub returns-in-Refused : goal.returns-in-Refused
+pub returns-in_err-check_room : goal.returns-in_err-check_room
 unfolding prepare_room
-returns-in-Refused c = group-stop _ _ _ (sym c.check_room.ensures ∙ c.in-Refused.is)
+returns-in_err-check_room c = handed _ _ c.from_residual.ensures.1 ∙ group-stop _ _ _ (sym c.check_room.ensures ∙ c.in_err-check_room.was)
 
-pub returns-in-Refused-check_room : goal.returns-in-Refused-check_room
+pub returns-in_err-check_room-2 : goal.returns-in_err-check_room-2
 unfolding prepare_room
-returns-in-Refused-check_room c = group-pass _ _ _ (sym c.check_room.ensures ∙ c.in-Accepted.is) (group-stop _ _ _ (sym c.check_room-in-Accepted.ensures ∙ c.in-Refused-check_room.is))
+returns-in_err-check_room-2 c = handed _ _ c.from_residual-in_err-check_room-2.ensures.1 ∙ group-pass _ _ _ (sym c.check_room.ensures ∙ c.in_ok-check_room.was) (group-stop _ _ _ (sym c.check_room-2.ensures ∙ c.in_err-check_room-2.was))
 
-pub returns-in-Accepted-check_room : goal.returns-in-Accepted-check_room
+pub returns : goal.returns
 unfolding prepare_room
-returns-in-Accepted-check_room c = group-pass _ _ _ (sym c.check_room.ensures ∙ c.in-Accepted.is) (group-pass _ _ _ (sym c.check_room-in-Accepted.ensures ∙ c.in-Accepted-check_room.is) c.check_local.ensures)
+returns c = group-pass _ _ _ (sym c.check_room.ensures ∙ c.in_ok-check_room.was) (group-pass _ _ _ (sym c.check_room-2.ensures ∙ c.in_ok-check_room-2.was) c.check_local.ensures)

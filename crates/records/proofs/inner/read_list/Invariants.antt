@@ -1,13 +1,7 @@
 -- `records::inner::read_list` meets its contract. The invariant: the first k numbers are written. Assumes nothing.
-use mathlib.Core.Path.{◌≡◌}
-use Prim.Native.Nat.{◌-◌, ◌≤◌}
-use lib.ListN.{length}
-use Rattle.base.specs.Lists.{written}
+use Rattle.std.proofs.Common.{◌≡◌, take}
 use Rattle.records.specs.Bytes.{list_found_at}
 use Rattle.records.proofs.inner.read_list.Given as goal
 
 abbrev pub invariant-loop-k : goal.invariant-loop-k
-invariant-loop-k l = (l.k ≤ 16) × (length l.list ≡ length l.initial.list) × (l.list ≡ written l.k (list_found_at (λ x. x) l.call l.at) l.initial.list)
-
-abbrev pub decreases-loop-k : goal.decreases-loop-k
-decreases-loop-k l = 16 - l.k
+invariant-loop-k g l = take l.k l.list ≡ list_found_at g.T.Element.read l.k l.call l.at

@@ -1,11 +1,12 @@
 -- `repeated::local::hybit_repeated_plan` meets its contract: the lists that the checked plan left are written again with the same. Assumes
 -- nothing.
 use mathlib.Core.Path.{sym, ap, ◌∙◌}
+use Rattle.std.specs.Prelude.{Ok, Err}
+use Rattle.base.specs.Checks.{Check}
 use mathlib.Core.Bool.{Bool}
 use mathlib.Core.List.{List}
 use Prim.Native.Nat.{ℕ}
 use native.Mathlib.Omega.{arith}
-use Rattle.base.specs.declared.Checked.{Checked}
 use Rattle.mask.specs.Mask.{in_mask}
 use Rattle.side.specs.Side.{side_holds}
 use Rattle.numeric_plan.specs.Plan.{pair_entries}
@@ -22,39 +23,21 @@ module _ (s : Start) where
   lists = pair_entries s.args.nrows region (side_holds s.args.row_word_ptr.now s.args.row_word_indices.now s.args.row_masks.now) s.args.row_ptr.now s.args.col_idx.now
 
   -- all checks of the plan
-  abbrev check : Checked
+  abbrev check : Check
   check =
       whole_check s.args.nrows s.args.ncols s.args.row_word_ptr.now s.args.row_word_indices.now s.args.row_masks.now s.args.structural_nnz s.args.column_nrows s.args.column_ncols s.args.column_word_ptr.now s.args.column_word_indices.now s.args.column_masks.now s.args.column_structural_nnz s.args.matrix_nrows s.args.matrix_ncols s.args.row_ptr.now s.args.col_idx.now s.args.values.now s.args.len s.args.words.now s.args.global_nodes.now s.args.local_row_ptr.now s.args.local_col_idx.now s.args.source_ptr.now s.args.source_indices.now
 
 pub repeat_plan-terms-requires : goal.repeat_plan-terms-requires
 repeat_plan-terms-requires c =
-    let e = plan-accepted (check (goal.at.repeat_plan-terms-requires c).Start) c.args.nrows (region (goal.at.repeat_plan-terms-requires c).Start) (lists (goal.at.repeat_plan-terms-requires c).Start) _ (sym c.prepare_local_numeric_plan.ensures.value ∙ c.in-Prepared.is) in
+    let e = plan-accepted (check (goal.at.repeat_plan-terms-requires c).Start) c.args.nrows (region (goal.at.repeat_plan-terms-requires c).Start) (lists (goal.at.repeat_plan-terms-requires c).Start) _ (sym c.prepare_local_numeric_plan.ensures.value ∙ c.in-Ok.is) in
     let left = c.prepare_local_numeric_plan.ensures in
     let h = plan-held c.args.nrows c.args.ncols c.args.row_word_ptr.now c.args.row_word_indices.now c.args.row_masks.now c.args.structural_nnz c.args.column_nrows c.args.column_ncols c.args.column_word_ptr.now c.args.column_word_indices.now c.args.column_masks.now c.args.column_structural_nnz c.args.matrix_nrows c.args.matrix_ncols c.args.row_ptr.now c.args.col_idx.now c.args.values.now c.args.len c.args.words.now c.args.global_nodes.now c.args.local_row_ptr.now c.args.local_col_idx.now c.args.source_ptr.now c.args.source_indices.now (λ k. omega (arith, c.type_inv.row_masks k)) (λ k. omega (arith, c.type_inv.column_masks k)) (λ k. omega (arith, c.type_inv.words k)) _ _ _ _ _ e.0 left.members left.pointers left.columns left.starts left.sources in
     (h, e.1 ∙ held-terms c.args.nrows c.args.row_word_ptr.now c.args.row_word_indices.now c.args.row_masks.now c.args.row_ptr.now c.args.col_idx.now c.args.words.now h.inputs)
 
-pub returns-in-Refused : goal.returns-in-Refused
+pub returns-in-Err-clause-value : goal.returns-in-Err-clause-value
 unfolding sources_answer
-returns-in-Refused c =
-    let u = c.prepare_local_numeric_plan.ensures in
-    record {
-      value = c.refused.ensures ∙ ap sources_answer (sym c.in-Refused.is ∙ u.value);
-      members = u.members;
-      pointers = u.pointers;
-      columns = u.columns;
-      starts = u.starts;
-      sources = u.sources;
-    }
+returns-in-Err-clause-value c = c.refused.ensures ∙ ap sources_answer (sym c.in-Err.is ∙ c.prepare_local_numeric_plan.ensures.value)
 
-pub returns-in-Prepared : goal.returns-in-Prepared
+pub returns-in-Ok-clause-value : goal.returns-in-Ok-clause-value
 unfolding sources_answer
-returns-in-Prepared c =
-    let u = c.prepare_local_numeric_plan.ensures in
-    let r = c.repeat_plan-terms.ensures in record {
-      value = ap value_answer r.value ∙ ap sources_answer (sym c.in-Prepared.is ∙ u.value);
-      members = r.members ∙ u.members;
-      pointers = r.pointers ∙ u.pointers;
-      columns = r.columns ∙ u.columns;
-      starts = r.starts ∙ u.starts;
-      sources = r.entries ∙ u.sources;
-    }
+returns-in-Ok-clause-value c = c.answered.ensures ∙ ap value_answer c.repeat_plan-terms.ensures.value ∙ ap sources_answer (sym c.in-Ok.is ∙ c.prepare_local_numeric_plan.ensures.value)

@@ -1,15 +1,7 @@
 -- `side::inner::row_popcount` meets its contract. Assumes nothing.
 use mathlib.Core.Path.{◌∙◌}
-use Prim.Native.Nat.{◌+◌}
-use native.Mathlib.Omega.{arith}
 use Rattle.side.proofs.AtRow.{at_up, at-masks, at-few, at_count}
 use Rattle.side.proofs.inner.row_popcount.Goals as goal
-
-pub overflow_cast-from : goal.overflow_cast-from
-overflow_cast-from c = omega (arith, c.type_inv.row_word_ptr c.args.number)
-
-pub overflow_cast-to : goal.overflow_cast-to
-overflow_cast-to c = omega (arith, c.type_inv.row_word_ptr (c.args.number + 1))
 
 pub count_bits-requires : goal.count_bits-requires
 count_bits-requires c = (at_up _ _ _ _ _ c.requires.0 _ c.requires.1, at-masks _ _ _ _ _ c.requires.0 _ c.requires.1, at-few _ _ _ _ _ c.requires.0 _ c.requires.1)

@@ -1,14 +1,6 @@
 -- `side::inner::row_select` meets its contract. Assumes nothing.
-use Prim.Native.Nat.{◌+◌}
-use native.Mathlib.Omega.{arith}
 use Rattle.side.proofs.AtRow.{at_up, at_words, at-masks, at_row, at-inside}
 use Rattle.side.proofs.inner.row_select.Goals as goal
-
-pub overflow_cast-from : goal.overflow_cast-from
-overflow_cast-from c = omega (arith, c.type_inv.row_word_ptr c.args.number)
-
-pub overflow_cast-to : goal.overflow_cast-to
-overflow_cast-to c = omega (arith, c.type_inv.row_word_ptr (c.args.number + 1))
 
 pub select-requires : goal.select-requires
 select-requires c = (at_up _ _ _ _ _ c.requires.0 _ c.requires.1, at_words _ _ _ _ _ c.requires.0 _ c.requires.1, at-masks _ _ _ _ _ c.requires.0 _ c.requires.1, at_row _ _ _ _ _ c.requires.0 _ c.requires.1, at-inside _ _ _ _ _ c.requires.0 _ c.requires.1)

@@ -1,5 +1,5 @@
--- `side_sets::inner::combine_row` meets its contract. The invariant: the words below a bound are merged, and both rows go on at or past it. Assumes nothing.
-use Prim.Native.Nat.{◌+◌, ◌-◌}
+-- The words below a bound are merged, and both rows go on at or past it.
+use Rattle.std.proofs.Common.{◌+◌, ◌-◌}
 use Rattle.word.specs.Answers.{on}
 use Rattle.side_sets.proofs.Merging.{Merging}
 use Rattle.side_sets.proofs.inner.combine_row.Given as goal

@@ -1,20 +1,23 @@
--- `text_reading::inner::find` meets its contract. The invariant: the first such byte is so far on as it is among the bytes from i on. Assumes nothing.
-use mathlib.Core.Path.{sym}
-use native.Mathlib.Nat.{zero-add}
-use native.Mathlib.Omega.{arith}
-use lib.ListN.{length}
-use Rattle.text_reading.specs.Reading.{before}
-use Rattle.text_reading.proofs.Parts.{find-step, find-stop, find-end}
+-- `text_reading::inner::find` meets its contract. Assumes nothing.
+use Rattle.std.proofs.Common.{◌≡◌, ℕ, ◌<◌, ◌≤◌, Bool, Some, None, cond, length, eqb, ltb, sym, ap, ◌∙◌, ◌⊎◌, inl, inr, rules, arith}
+use Rattle.std.specs.Option.{unwrap_or}
+use Rattle.std.proofs.lemmas.Iterator.{YieldsList-from_slice}
+use Rattle.std.proofs.lemmas.Iterator.Search.{position_from_yields_List}
+use Rattle.std.proofs.lemmas.List.Sums.{prefix_len-le-length}
+use borrow.Author.Tests.{tests, lt-ltb, le-ltb}
+use Rattle.base.proofs.Bools.{lt-or-le}
+use Rattle.text_reading.proofs.Parts.{length-before}
 use Rattle.text_reading.proofs.inner.find.Goals as goal
 
-pub loop-i-init : goal.loop-i-init
-loop-i-init c = (omega arith, sym (zero-add (length (before c.args.byte c.args.bytes.now))))
-
-pub returns-then-bytes-i : goal.returns-then-bytes-i
-returns-then-bytes-i c = find-stop c.args.byte c.args.bytes.now c.loop-i.i c.loop-i-test.true c.if-bytes-i.true c.loop-i.invariant.1
-
-pub loop-i-preserved : goal.loop-i-preserved
-loop-i-preserved c = (omega arith, find-step c.args.byte c.args.bytes.now c.loop-i.i c.loop-i-test.true c.if-bytes-i.false c.loop-i.invariant.1)
+found : (n k : ℕ) → k ≤ n → unwrap_or (cond (ltb k n) (Some k) None) n ≡ k
+found n k h = go (lt-or-le k n)
+  where
+    go : (k < n) ⊎ (n ≤ k) → unwrap_or (cond (ltb k n) (Some k) None) n ≡ k
+    go (inl a) = ap (λ (b : Bool). unwrap_or (cond b (Some k) None) n) (lt-ltb k n a)
+    go (inr a) = ap (λ (b : Bool). unwrap_or (cond b (Some k) None) n) (le-ltb k n a) ∙ omega arith
 
 pub returns : goal.returns
-returns c = find-end c.args.byte c.args.bytes.now c.loop-i.i c.loop-i-test.false c.loop-i.invariant.1
+returns c =
+    let bytes = c.args.bytes.now in
+    let place = position_from_yields_List (λ b. eqb b c.args.byte) _ _ c.position.result c.position.ensures.ran (YieldsList-from_slice bytes cc) (λ x b q k. search (rules, tests)) in
+    c.unwrap_or.ensures ∙ ap (λ o. unwrap_or o (length bytes)) place ∙ found (length bytes) _ (prefix_len-le-length _ bytes) ∙ sym (length-before c.args.byte bytes)

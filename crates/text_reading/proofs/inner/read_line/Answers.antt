@@ -4,7 +4,7 @@ use Prim.Native.Nat.{◌≤◌, ◌<◌}
 use native.Mathlib.Omega.{arith}
 use lib.ListN.{length}
 use lib.Seq.{length-take-le}
-use Rattle.text_reading.proofs.Lines.{line-within, line-value, line-found, line-missing, next-found, next-missing}
+use Rattle.text_reading.proofs.Lines.{same_start, line-within, line-value, line-found, line-missing, next-found, next-missing}
 use Rattle.text_reading.proofs.inner.read_line.Goals as goal
 
 pub slice_bounds-starts_with-end : goal.slice_bounds-starts_with-end
@@ -17,9 +17,9 @@ returns-then-to-text c =
     let to = c.find-to.result in
     let e = c.find-to.ensures in
     let h : to < length text = c.if-to-text.true in record {
-      good_value = c.starts_with-good.ensures ∙ line-found key text to e h;
-      from_le_to = (omega (arith, c.smaller-from.ensures), line-within key text to e);
-      text_value = line-value key text to e c.smaller-from.result c.smaller-from.ensures;
+      good_value = c.starts_with-good.ensures.value ∙ same_start _ key ∙ line-found key text to e h;
+      from_le_to = (omega (arith, c.min-from.ensures), line-within key text to e);
+      text_value = line-value key text to e c.min-from.result c.min-from.ensures;
       next_in_bounds = omega arith;
       text_value_2 = next-found key text to e;
     }
@@ -32,8 +32,8 @@ returns-else-to-text c =
     let e = c.find-to.ensures in
     let h : length text ≤ to = c.if-to-text.false in record {
       good_value = sym (line-missing key text to e h);
-      from_le_to = (omega (arith, c.smaller-from.ensures), line-within key text to e);
-      text_value = line-value key text to e c.smaller-from.result c.smaller-from.ensures;
+      from_le_to = (omega (arith, c.min-from.ensures), line-within key text to e);
+      text_value = line-value key text to e c.min-from.result c.min-from.ensures;
       next_in_bounds = line-within key text to e;
       text_value_2 = next-missing key text to e h;
     }

@@ -1,21 +1,13 @@
--- `text_writing::inner::decimal_length` meets its contract. The invariant: the digits counted, and those of what is left, are all. Assumes nothing.
-use mathlib.Core.Path.{ap}
-use native.Mathlib.Omega.{arith}
-use lib.ListN.{length}
-use Rattle.text_writing.proofs.Digits.{decimal-one, decimal-most, length_more}
+-- `text_writing::inner::decimal_length` meets its contract. Assumes nothing.
+use Rattle.std.proofs.Common.{◌≡◌, ℕ, ◌+◌, ◌*◌, ◌^◌, ◌<◌, ◌≤◌, Option, None, Some, IfNone, IfSome, length, sym, ap, ◌∙◌, arith}
+use Rattle.std.specs.Option.{unwrap_or}
+use Rattle.text_writing.specs.Text.{decimal}
+use Rattle.text_writing.proofs.Digits.{length-decimal}
 use Rattle.text_writing.proofs.inner.decimal_length.Goals as goal
 
-pub loop-left-init : goal.loop-left-init
-loop-left-init c = (omega arith, omega arith)
-
-pub overflow_add-count : goal.overflow_add-count
-overflow_add-count c = omega (arith, c.loop-left.invariant.1, decimal-most c.args.n)
-
-pub loop-left-smaller : goal.loop-left-smaller
-loop-left-smaller c = omega arith
-
-pub loop-left-preserved : goal.loop-left-preserved
-loop-left-preserved c = let l = c.loop-left in (omega (arith, l.invariant.0), omega (arith, l.invariant.1, length_more l.left (omega arith) (omega (arith, l.invariant.0))))
+one_more : (n : ℕ) (o : Option ℕ) → n < 2 ^ 64 → IfNone o (n ≡ 0) → IfSome o (λ k. 10 ^ k ≤ n) → IfSome o (λ k. n < 10 * 10 ^ k) → unwrap_or o 0 + 1 ≡ length (decimal n)
+one_more n None u z lo hi = sym (length-decimal 0 n (λ h. omega arith) (omega arith) (omega arith))
+one_more n (Some k) u z lo hi = sym (length-decimal k n (λ h. lo) hi (omega arith))
 
 pub returns : goal.returns
-returns c = let l = c.loop-left in omega (arith, l.invariant.1, ap length (decimal-one l.left (omega arith)))
+returns c = let e = c.checked_ilog10.ensures in ap (λ k. k + 1) c.unwrap_or.ensures ∙ one_more _ _ (omega arith) e.none e.power_le e.next_power_gt

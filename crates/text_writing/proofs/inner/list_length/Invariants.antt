@@ -1,12 +1,8 @@
--- `text_writing::inner::list_length` meets its contract. The invariant: the bytes of the first i numbers are counted. Assumes nothing.
-use mathlib.Core.Path.{◌≡◌}
-use Prim.Native.Nat.{◌-◌, ◌*◌, ◌≤◌}
-use lib.ListN.{length, take}
-use Rattle.text_writing.specs.Text.{numbers}
+-- `text_writing::inner::list_length` meets its contract. The invariant: the digits of the first numbers are counted. Assumes nothing.
+use Rattle.std.proofs.Common.{◌≡◌, ◌*◌, ◌≤◌, length, take}
+use Rattle.std.specs.List.{sum_by}
+use Rattle.text_writing.specs.Text.{decimal}
 use Rattle.text_writing.proofs.inner.list_length.Given as goal
 
-abbrev pub invariant-loop-i : goal.invariant-loop-i
-invariant-loop-i l = (l.i ≤ length l.list) × (l.total ≡ length (numbers (take l.i l.list))) × (l.total ≤ 21 * l.i)
-
-abbrev pub decreases-loop-i : goal.decreases-loop-i
-decreases-loop-i l = length l.list - l.i
+abbrev pub invariant-loop-x : goal.invariant-loop-x
+invariant-loop-x l = (l.digits ≡ sum_by (λ n. length (decimal n)) (take l.x-index l.list)) × (l.digits ≤ 20 * l.x-index)

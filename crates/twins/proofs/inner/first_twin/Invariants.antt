@@ -1,10 +1,6 @@
 -- `twins::inner::first_twin` meets its contract. The invariant: no block before `twin` that is of an earlier class repeats a key. Assumes nothing.
-use Prim.Native.Nat.{◌+◌, ◌-◌, ◌≤◌}
 use Rattle.twins.specs.Keys.{Twin}
 use Rattle.twins.proofs.inner.first_twin.Given as goal
 
 abbrev pub invariant-loop-class : goal.invariant-loop-class
-invariant-loop-class l = Twin l.kinds l.ids l.fields l.last 0 l.class l.count l.twin × (l.class ≤ l.last + 1)
-
-abbrev pub decreases-loop-class : goal.decreases-loop-class
-decreases-loop-class l = l.last + 1 - l.class
+invariant-loop-class l = Twin l.keys l.last 0 l.class l.count l.twin

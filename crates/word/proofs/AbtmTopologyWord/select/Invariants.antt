@@ -1,12 +1,7 @@
--- `word::AbtmTopologyWord::select` meets its contract. Assumes nothing.
-use Prim.Native.Nat.{◌≤◌, ◌<◌, ◌-◌, ◌^◌}
-use mathlib.Core.Path.{◌≡◌}
-use lib.ListN.{drop}
+-- `word::AbtmTopologyWord::select`: as many of the lowest set bits are cleared as there were turns.
+use Rattle.std.proofs.Common.{◌≡◌, drop}
 use Rattle.word.specs.Bits.{set_bits}
 use Rattle.word.proofs.AbtmTopologyWord.select.Given as goal
 
-abbrev pub invariant-loop-k : goal.invariant-loop-k
-invariant-loop-k l = (l.k ≤ l.ordinal) × (l.bits < 2 ^ 64) × (set_bits l.bits ≡ drop l.k (set_bits l.initial.bits))
-
-abbrev pub decreases-loop-k : goal.decreases-loop-k
-decreases-loop-k l = l.ordinal - l.k
+abbrev pub invariant-loop : goal.invariant-loop
+invariant-loop l = set_bits l.bits ≡ drop l.counter (set_bits l.initial.bits)

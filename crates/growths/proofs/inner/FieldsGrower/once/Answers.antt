@@ -1,0 +1,6 @@
+-- `growths::inner::FieldsGrower::once` meets its contract. Assumes nothing.
+use Rattle.growths.proofs.Growing.{field-own}
+use Rattle.growths.proofs.inner.FieldsGrower.once.Goals as goal
+
+pub returns-in-Ok-clause-own : goal.returns-in-Ok-clause-own
+returns-in-Ok-clause-own c = field-own _ _ _ _ _ _ _ _

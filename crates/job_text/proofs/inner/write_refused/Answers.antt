@@ -1,0 +1,40 @@
+-- `job_text::inner::write_refused` meets its contract. Assumes nothing.
+use mathlib.Core.Path.{◌≡◌, refl, sym, ap, ◌∙◌}
+use Rattle.std.specs.Prelude.{Ok, Err}
+use Prim.Native.Nat.{◌+◌}
+use native.Mathlib.Omega.{arith}
+use borrow.Author.Tests.{le-leb, lt-leb}
+use lib.ListN.{length}
+use Rattle.base.proofs.Checks.{on-accepted, on-refused, kept, last-pass, last-stop}
+use Rattle.text_writing.specs.Text.{decimal, line}
+use Rattle.text_writing.proofs.Digits.{decimal-most}
+use Rattle.text_writing.proofs.Lists.{length-line}
+use Rattle.job_text.specs.Answer.{refused_key, text_check}
+use Rattle.job_text.proofs.Lines.{placed-front}
+use Rattle.job_text.proofs.inner.write_refused.Goals as goal
+
+pub overflow_add-length : goal.overflow_add-length
+overflow_add-length c = omega (arith, decimal-most)
+
+pub returns-then-length-out : goal.returns-then-length-out
+unfolding text_check
+returns-then-length-out c =
+    let text = line refused_key (decimal c.args.number) in
+    let e = sym (last-stop _ _ _ (lt-leb (length text) (length c.args.out.now) (omega (arith, length-line))) refl) in record {
+      value = on-refused _ _ _ Err e;
+      out_after = kept _ _ _ _ e;
+    }
+
+pub put_line-requires : goal.put_line-requires
+put_line-requires c = omega (arith, length-line)
+
+pub returns : goal.returns
+unfolding text_check
+returns c =
+    let text = line refused_key (decimal c.args.number) in
+    let n : c.decimal_length-length.result + 9 ≡ length text = omega (arith, length-line) in
+    let m : 9 + c.decimal_length-length.result ≡ length text = omega (arith, n) in
+    let e = sym (last-pass _ _ _ (le-leb (length text) (length c.args.out.now) (omega (arith, n))) refl) in record {
+      value = on-accepted _ _ _ _ e (ap Ok m);
+      out_after = on-accepted _ _ _ _ e (c.put_line.ensures.out_after ∙ placed-front text c.args.out.now);
+    }

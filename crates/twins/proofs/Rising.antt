@@ -1,0 +1,18 @@
+-- Keys that rise, each above the one before it, are all different. Assumes nothing.
+use Rattle.std.proofs.Common.{◌≡◌, ℕ, zero, suc, ◌+◌, ◌<◌, ◌-◌, arith}
+use Rattle.std.specs.Cmp.{IsTotalOrder}
+use Rattle.std.specs.declared.cmp.Ordering.{Ordering}
+use Rattle.std.specs.declared.cmp.Ordering.TheVariants.{Less}
+use Rattle.std.proofs.lemmas.Cmp.{tied_itself}
+
+module _ {K : Type 0} {cmp : K → K → Ordering} (total : IsTotalOrder cmp) (key : ℕ → K) (count : ℕ) (rises : (b : ℕ) → 0 < b → b < count → cmp (key (b - 1)) (key b) ≡ Less) where
+  -- each is below all that come after it
+  below : (n a b : ℕ) → b ≡ a + n + 1 → b < count → cmp (key a) (key b) ≡ Less
+  below zero a b e h = let d : a ≡ b - 1 = omega arith in rw d (rises b (omega arith) h)
+  below (suc n) a b e h = total.trans (key a) (key (b - 1)) (key b) (below n a (b - 1) (omega arith) (omega arith)) (rises b (omega arith) h)
+
+  pub apart : (a b : ℕ) → a < b → b < count → key a ≡ key b → ⊥
+  apart a b l h e =
+      let less = below (b - a - 1) a b (omega arith) h in
+      let tied = tied_itself total (key a) in
+      cc

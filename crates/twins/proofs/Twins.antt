@@ -1,0 +1,65 @@
+-- Blocks with one key, and the first that repeats the key of an earlier one. Assumes nothing.
+use Rattle.std.proofs.Common.{◌≡◌, refl, sym, ap, ap₂, ◌∙◌, subst, ◌⊎◌, inl, inr, Bool, ◌&&◌, ◌||◌, ℕ, zero, suc, ◌+◌, ◌/◌, ◌^◌, ◌≤◌, ◌<◌, get_or, zero-add, add_assoc, arith}
+use Rattle.std.proofs.Math.Bool.{and_assoc}
+use Rattle.std.proofs.Math.Nat.{lt_of_le_of_lt}
+use Rattle.std.specs.List.{list_any, range_with_len}
+use lib.Dec.{T, eqb, eqb→eq}
+use lib.Bits.{and_le_r}
+use Rattle.base.specs.Sets.{any_below}
+use Rattle.base.proofs.Bools.{and_l, and_r, T_of, not-T-of, lt-or-le}
+use Rattle.base.proofs.Sets.{None, First, any-cong, any_append, first-is, first-none, first-at}
+use Rattle.twins.specs.declared.keys.Key.{Key}
+use Rattle.twins.specs.declared.keys.Keys.{Keys}
+use Rattle.twins.specs.Keys.{same_key, key_at, alike, repeated, lowest_twin, spread_of, Twin}
+
+-- a search of a range
+any-from : (p : ℕ → Bool) (a n : ℕ) → list_any p (range_with_len a n) ≡ any_below n (λ i. p (a + i))
+unfolding any_below
+any-from p a zero = refl
+any-from p a (suc n) =
+    let first : a ≡ a + 0 = omega arith in
+    let rest : any_below n (λ i. p (a + 1 + i)) ≡ any_below n (λ i. p (a + (1 + i))) = any-cong n _ _ (λ i l. rw add_assoc refl) in
+    let all : 1 + n ≡ suc n = omega arith in
+    ap₂ ◌||◌ (ap p first) (any-from p (a + 1) n ∙ rest) ∙ sym (any_append 1 n (λ i. p (a + i))) ∙ ap (λ (k : ℕ). any_below k (λ i. p (a + i))) all
+
+pub any-range : (p : ℕ → Bool) (n : ℕ) → list_any p (range_with_len 0 n) ≡ any_below n p
+any-range p n = any-from p 0 n ∙ any-cong n _ _ (λ i l. ap p (zero-add i))
+
+module _ (keys : Keys) (a b : ℕ) where
+  kind : Bool
+  kind = eqb (get_or keys.kinds.now a 0) (get_or keys.kinds.now b 0)
+
+  id : Bool
+  id = eqb (get_or keys.ids.now a 0) (get_or keys.ids.now b 0)
+
+  field : Bool
+  field = eqb (get_or keys.fields.now a 0) (get_or keys.fields.now b 0)
+
+  -- what the comparison of two keys answers
+  pub alike_at : (x y : Key) → x ≡ key_at keys a → y ≡ key_at keys b → (eqb x.kind y.kind && (eqb x.id y.id && eqb x.field y.field)) ≡ alike keys a b
+  unfolding same_key kind id field
+  alike_at x y e f = rw (e, f) (sym (and_assoc kind id field))
+
+  pub one-key : T (alike keys a b) → key_at keys a ≡ key_at keys b
+  unfolding same_key kind id field
+  one-key t =
+      let k : get_or keys.kinds.now a 0 ≡ get_or keys.kinds.now b 0 = eqb→eq _ _ (and_l kind id (and_l (kind && id) field t)) in
+      let i : get_or keys.ids.now a 0 ≡ get_or keys.ids.now b 0 = eqb→eq _ _ (and_r kind id (and_l (kind && id) field t)) in
+      let f : get_or keys.fields.now a 0 ≡ get_or keys.fields.now b 0 = eqb→eq _ _ (and_r (kind && id) field t) in
+      rw (k, i, f) refl
+
+module _ (keys : Keys) where
+  -- what the first twin is
+  pub twin-is : (count twin : ℕ) → twin ≡ lowest_twin keys count → First count (repeated keys) twin
+  twin-is count twin e = subst (First count (repeated keys)) (sym e) (first-at count (repeated keys))
+
+  -- all classes: the first twin
+  pub twin-first : (last class count twin : ℕ) → last < class → Twin keys last 0 class count twin → twin ≡ lowest_twin keys count
+  twin-first last class count twin h t = go (lt-or-le twin count)
+    where
+      none : None (repeated keys) twin
+      none b l = not-T-of _ (t.none b l (omega arith) (lt_of_le_of_lt (and_le_r (spread_of (key_at keys b) / 2 ^ 32) last) h))
+
+      go : (twin < count) ⊎ (count ≤ twin) → twin ≡ lowest_twin keys count
+      go (inl l) = sym (first-is count (repeated keys) twin l (T_of _ (t.twice l)) none)
+      go (inr l) = let e : twin ≡ count = omega (arith, t.within) in e ∙ sym (first-none count (repeated keys) (subst (None (repeated keys)) e none))

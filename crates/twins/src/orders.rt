@@ -1,0 +1,56 @@
+// Keys that rise have no twins, in one of two orders: by kind, id, field, as a station lists peak after peak, or by field, kind, id, as it
+// lists field after field.
+ghost use Rattle.std.specs.Prelude.{◌≡◌, ◌≤◌, true, length};
+ghost use Rattle.twins.specs.declared.keys.Key.{Key};
+ghost use Rattle.twins.specs.Keys.{lowest_twin};
+
+use crate::keys::{Key, Keys};
+
+// A key as one of the orders takes it.
+pub(crate) trait Ordered: Ord + Copy {
+    ghost of: { Key → Self };
+
+    fn of(key: Key) -> Self
+        ensures { result ≡ of key };
+}
+
+impl Ordered for Key {
+    ghost of = { λ key. key };
+
+    fn of(key: Key) -> Self {
+        key
+    }
+}
+
+#[derive(Clone, Copy, PartialEq, Eq, PartialOrd, Ord)]
+pub(crate) struct ByField {
+    field: u32,
+    kind: u8,
+    id: u64,
+}
+
+impl Ordered for ByField {
+    ghost of = { λ key. record { field = key.field; kind = key.kind; id = key.id } };
+
+    fn of(key: Key) -> Self {
+        Self {
+            field: key.field,
+            kind: key.kind,
+            id: key.id,
+        }
+    }
+}
+
+// Each of the first blocks is above the one before it.
+pub(crate) fn rises<K: Ordered>(keys: Keys, count: usize) -> bool
+    requires { count ≤ length keys.kinds.now }
+    ensures { result ≡ true → lowest_twin keys.entry count ≡ count }
+{
+    for b in 1..count {
+        let above = K::of(keys.at(b - 1)) < K::of(keys.at(b));
+        if !above {
+            return false;
+        }
+    }
+    true
+}
