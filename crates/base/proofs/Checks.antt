@@ -1,7 +1,7 @@
 -- Laws of the chain of checks: for a function that returns at each check that fails, for its caller, and for whoever hands a refusal on.
 -- Assumes nothing.
 use mathlib.Core.Path.{◌≡◌, refl, sym, ap, ◌∙◌}
-use mathlib.Core.Bool.{Bool, true, false, not, cond}
+use mathlib.Core.Bool.{Bool, true, false, not}
 use Prim.Native.Nat.{ℕ, zero, suc, ◌+◌, ◌<◌}
 use native.Mathlib.Nat.{not-suc-le-zero}
 use native.Mathlib.Numerals.{add-one}
@@ -14,7 +14,7 @@ use Rattle.base.specs.declared.Refusal.TheVariants.{WrongLength}
 use Rattle.std.specs.Prelude.{Result, Ok, Err}
 use Rattle.std.specs.Result.{IsErrAnd}
 use Rattle.std.proofs.lemmas.Result.{err_from_is_err_and}
-use Rattle.base.specs.Checks.{Check, must, must_be, ◌then◌, checks_below, answer, after, leaves}
+use Rattle.base.specs.Checks.{Check, must, must_be, ◌then◌, checks_below, after, leaves}
 
 -- ---- a return: the answer r is what the chain says
 

@@ -1,84 +1,23 @@
 -- Laws of lists: scans from the front, membership, lists made by a rule, and a list written over the front of a lent one. Assumes nothing.
 use mathlib.Core.Path.{◌≡◌, refl, sym, ap, ap₂, ◌∙◌, subst}
-use mathlib.Core.Bool.{Bool, true, false, ◌&&◌, ◌||◌, and-true, and-false, or_assoc, or_comm}
+use mathlib.Core.Bool.{Bool, true, false, ◌&&◌, ◌||◌, or_assoc, or_comm}
 use mathlib.Core.List.{List, [], ◌∷◌, ◌++◌, map, append-nil, append_assoc}
 use mathlib.Core.Logic.{◌⊎◌, inl, inr}
 use Prim.Native.Nat.{ℕ, zero, suc, ◌+◌, ◌-◌, ◌≤◌, ◌<◌}
 use native.Mathlib.Nat.{zero-add, add-zero, le_refl, le_of_suc-le-suc, not-suc-le-zero, le_of_lt, sub-zero, zero-sub, suc-sub-suc}
 use native.Mathlib.Numerals.{add-one}
 use native.Mathlib.Omega.{arith}
-use borrow.Author.Tests.{eq-eqb, eqb-true, lt-ltb, le-leb, lt-leb}
-use Rattle.std.specs.Bool.{MatchBool}
-use Rattle.std.specs.List.Sorted.{IsNonDecreasing}
-use lib.Dec.{T, leb, ltb, eqb, ltb→lt, lt→ltb, eqb→eq}
-use lib.ListN.{length, get_or, set, take, drop, replicate, get_or-append, drop_of_length-le, length-append, length-take, length-drop, length-replicate, take-append-drop, replicate-append-replicate}
+use borrow.Author.Tests.{eq-eqb, eqb-true}
+use lib.Dec.{T, eqb, eqb→eq}
+use lib.ListN.{length, get_or, set, take, drop, replicate, get_or-append, length-append, length-take, length-drop, length-replicate, take-append-drop, replicate-append-replicate}
 use lib.Seq.{slice, get_or-append-add, drop-cons, take-suc, take-take, length-take-le, set_at, append_snoc, take_all, drop-length, get_or-drop, get_or-take, length-slice, slice_empty, drop-append-le, drop-append-add, drop-drop, ext_get_or, take-append_seam, take-nil, take_at}
-use Rattle.base.specs.Lists.{every, below, rising, pairwise, is_in, same_list, list_from, written, over, placed, over_with_zeros, zeroed}
-use Rattle.base.proofs.Bools.{bool-ext, and_l, and_r, and_i, and-under, and_left, and_right, or_l, or_r, or-e, or-false, T_true, T_false, T_of, both_ways, lt-or-le}
-
--- ---- a loop that tests a list from the front: the test of the whole list is the test of what is left of it
-
-module _ {A : Type 0} (f : A → Bool) (d : A) (s : List A) where
-  pub every-step : (i : ℕ) → i < length s → f (get_or s i d) ≡ true → every f s ≡ every f (drop i s) → every f s ≡ every f (drop (i + 1) s)
-  every-step i h t e = e ∙ rw (drop-cons s i d h, t, add-one) refl
-
-  pub every-stop : (i : ℕ) → i < length s → f (get_or s i d) ≡ false → every f s ≡ every f (drop i s) → every f s ≡ false
-  every-stop i h t e = e ∙ rw (drop-cons s i d h, t) refl
-
-  pub every-end : (i : ℕ) → length s ≤ i → every f s ≡ every f (drop i s) → every f s ≡ true
-  every-end i h e = e ∙ ap (every f) (drop_of_length-le s h)
-
--- ---- a loop that no element ends: the test of the whole list is what was found so far and the test of what is left
-
-module _ {A : Type 0} (f : A → Bool) (d : A) (s : List A) where
-  pub found-more : (a : Bool) (i : ℕ) → i < length s → every f s ≡ (a && every f (drop i s)) → every f s ≡ (a && (f (get_or s i d) && every f (drop (i + 1) s)))
-  found-more a i h e = e ∙ ap (λ l. a && every f l) (drop-cons s i d h ∙ ap (λ n. get_or s i d ∷ drop n s) (sym (add-one i)))
-
-  pub found-pass : (a : Bool) (i : ℕ) → i < length s → f (get_or s i d) ≡ true → every f s ≡ (a && every f (drop i s)) → every f s ≡ (a && every f (drop (i + 1) s))
-  found-pass a i h t e = found-more a i h e ∙ ap (λ y. a && (y && every f (drop (i + 1) s))) t
-
-  pub found-fail : (a : Bool) (i : ℕ) → i < length s → f (get_or s i d) ≡ false → every f s ≡ (a && every f (drop i s)) → every f s ≡ false
-  found-fail a i h t e = found-more a i h e ∙ ap (λ y. a && (y && every f (drop (i + 1) s))) t ∙ and-false a
-
-  pub found-last : (a : Bool) (i : ℕ) → length s ≤ i → every f s ≡ (a && every f (drop i s)) → every f s ≡ a
-  found-last a i h e = e ∙ ap (λ l. a && every f l) (drop_of_length-le s h) ∙ and-true a
-
--- and where it keeps the largest element, to hold it to a bound
-module _ (b : ℕ) (s : List ℕ) where
-  pub top-first : 0 < length s → every (below b) s ≡ (ltb (get_or s 0 0) b && every (below b) (drop 1 s))
-  top-first h = ap (every (below b)) (drop-cons s 0 0 h)
-
-  pub top-more : (top i : ℕ) → i < length s → top < get_or s i 0 → every (below b) s ≡ (ltb top b && every (below b) (drop i s))
-      → every (below b) s ≡ (ltb (get_or s i 0) b && every (below b) (drop (i + 1) s))
-  top-more top i h l e =
-      found-more (below b) 0 s (ltb top b) i h e
-      ∙ bool-ext _ _ (and_r (ltb top b) _)
-      (λ t. and_i (ltb top b) _ (lt→ltb top b (omega (arith, l, ltb→lt (get_or s i 0) b (and_l (ltb (get_or s i 0) b) _ t)))) t)
-
-  pub top-same : (top i : ℕ) → i < length s → get_or s i 0 ≤ top → every (below b) s ≡ (ltb top b && every (below b) (drop i s))
-      → every (below b) s ≡ (ltb top b && every (below b) (drop (i + 1) s))
-  top-same top i h l e =
-      found-more (below b) 0 s (ltb top b) i h e
-      ∙ and-under (ltb top b) _ _ (λ t. ap (λ y. y && every (below b) (drop (i + 1) s)) (lt-ltb (get_or s i 0) b (omega (arith, l, ltb→lt top b t))))
+use Rattle.base.specs.Lists.{every, pairwise, is_in, same_list, list_from, written, over, placed, over_with_zeros, zeroed}
+use Rattle.base.proofs.Bools.{bool-ext, and_left, and_right, or_l, or_r, or-e, or-false, T_true, T_false, T_of, both_ways, lt-or-le}
 
 pub every-at : {A : Type 0} (f : A → Bool) (d : A) (s : List A) (i : ℕ) → every f s ≡ true → i < length s → f (get_or s i d) ≡ true
 every-at f d [] i e h = absurd (not-suc-le-zero h)
 every-at f d (x ∷ xs) zero e h = and_left (f x) (every f xs) e
 every-at f d (x ∷ xs) (suc i) e h = every-at f d xs i (and_right (f x) (every f xs) e) (le_of_suc-le-suc h)
-
-module _ {A : Type 0} (f : A → A → Bool) (d : A) (s : List A) where
-  two : (i : ℕ) → i + 1 < length s → drop i s ≡ get_or s i d ∷ (get_or s (i + 1) d ∷ drop (suc (i + 1)) s)
-  two i h =
-      let lo : i < length s = omega arith in
-      drop-cons s i d lo ∙ ap (λ (n : ℕ). get_or s i d ∷ drop n s) (sym (add-one i)) ∙ ap (λ (l : List A). get_or s i d ∷ l) (drop-cons s (i + 1) d h)
-
-  pub pairwise-step : (i : ℕ) → i + 1 < length s → f (get_or s i d) (get_or s (i + 1) d) ≡ true → pairwise f s ≡ pairwise f (drop i s) → pairwise f s ≡ pairwise f (drop (i + 1) s)
-  pairwise-step i h t e =
-      e ∙ ap (pairwise f) (two i h) ∙ ap (λ (b : Bool). b && pairwise f (get_or s (i + 1) d ∷ drop (suc (i + 1)) s)) t ∙ ap (pairwise f) (sym (drop-cons s (i + 1) d h))
-
-  pub pairwise-stop : (i : ℕ) → i + 1 < length s → f (get_or s i d) (get_or s (i + 1) d) ≡ false → pairwise f s ≡ pairwise f (drop i s) → pairwise f s ≡ false
-  pairwise-stop i h t e =
-      e ∙ ap (pairwise f) (two i h) ∙ ap (λ (b : Bool). b && pairwise f (get_or s (i + 1) d ∷ drop (suc (i + 1)) s)) t
 
 pub pairwise-short : {A : Type 0} (f : A → A → Bool) (s : List A) → length s ≤ 1 → pairwise f s ≡ true
 pairwise-short f [] h = refl
@@ -101,15 +40,6 @@ pairwise-i f d (x ∷ []) h = refl
 pairwise-i f d (x ∷ (y ∷ ys)) h =
     ap (λ (b : Bool). b && pairwise f (y ∷ ys)) (h 0 (omega arith))
     ∙ pairwise-i f d (y ∷ ys) (λ i l. let e : suc i + 1 ≡ suc (i + 1) = omega arith in ap (λ (n : ℕ). f (get_or (y ∷ ys) i d) (get_or (x ∷ (y ∷ ys)) n d)) (sym e) ∙ h (suc i) (omega arith))
-
--- what `is_sorted` answers of numbers
-pub rising-from_answer : (s : List ℕ) (r : Bool) → MatchBool r (IsNonDecreasing s) ((k : ℕ) × (k + 1 < length s) × ((d : ℕ) → get_or s (k + 1) d < get_or s k d)) → r ≡ rising s
-rising-from_answer s true h = sym (pairwise-i leb 0 s (λ i l. le-leb _ _ (h i (i + 1) 0 (omega arith) l)))
-rising-from_answer s false h =
-    sym (T_false _ (λ y.
-    let up : leb (get_or s h.0 0) (get_or s (h.0 + 1) 0) ≡ true = pairwise-at leb 0 s h.0 (T_true _ y) h.1 in
-    let down : leb (get_or s h.0 0) (get_or s (h.0 + 1) 0) ≡ false = lt-leb _ _ (h.2 0) in
-    cc))
 
 -- ---- a list of pointers that never falls
 

@@ -91,9 +91,6 @@ below_next P b h e i l = go (ℕ_discrete i b)
     go (yes d) = subst P (sym d) e
     go (no d) = h i (omega arith)
 
-pub none-next : (p : ℕ → Bool) (n : ℕ) → p n ≡ false → None p n → None p (n + 1)
-none-next p n e h = below_next (λ i. T (p i) → ⊥) n h (not-T-of (p n) e)
-
 -- ---- the first
 
 -- i passes and nothing before it does

@@ -1,6 +1,6 @@
 -- The chain of checks. A call's checks are one `Check`, accepted or the first refusal of its conditions in document 01's order; it decides
 -- the call's own answer (`answer`) and each list the call was lent (`leaves`).
-use Rattle.std.specs.Prelude.{Bool, true, false, cond, ℕ, zero, suc, eqb, Result, Ok, Err}
+use Rattle.std.specs.Prelude.{Bool, true, false, ℕ, zero, suc, eqb, Result, Ok, Err}
 use Rattle.base.specs.declared.Refusal.{Refusal}
 use Rattle.base.specs.declared.Refusal.TheVariants.{OverLimit, RowPtrLength, EntryLengths, RowPtrStart, RowPtrEnd, RowPtrFalls, ColumnOutside, NotFinite, BadTopology, NotSquare, WrongLength, BitPastLength, OutOfRange, NoBlock, EmptyBlock, RepeatedBlock, UnknownKind, TotalNotSides, NoRanks, OwnerOutOfRange, OwnersDiffer, SidesDiffer, PairWithoutEntry, EntryWithoutPair, ListTooShort, BadPointers, MalformedJob}
 

@@ -3,9 +3,9 @@
 #![tactic(auto)]
 
 ghost use Rattle.std.specs.Prelude.{◌≡◌, ℕ};
+ghost use Rattle.base.specs.Lists.{below};
 ghost use Rattle.base.specs.Checks.{refusal_number, refusal_expected, refusal_actual};
 
-pub mod inner;
 pub mod scan;
 
 // The most rows, columns, nodes, mask bits, layout unknowns.
@@ -120,6 +120,9 @@ pub trait Number: Copy {
 
     fn wide(self) -> usize
         ensures { result ≡ value self };
+
+    fn is_below(self, bound: usize) -> bool
+        ensures { result ≡ below bound (value self) };
 }
 
 impl Number for u32 {
@@ -127,6 +130,11 @@ impl Number for u32 {
 
     fn wide(self) -> usize {
         self as usize
+    }
+
+    // In 32 bits, where the bound fits them.
+    fn is_below(self, bound: usize) -> bool {
+        bound > 4294967295 || self < bound as u32
     }
 }
 
@@ -136,11 +144,8 @@ impl Number for u64 {
     fn wide(self) -> usize {
         self as usize
     }
-}
 
-// A 32-bit element as an index.
-pub fn wide(x: u32) -> usize
-    ensures { result ≡ x }
-{
-    x as usize
+    fn is_below(self, bound: usize) -> bool {
+        self < bound as u64
+    }
 }

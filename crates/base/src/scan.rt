@@ -10,19 +10,18 @@ pub fn all_below<T: Number>(s: &[T], bound: usize) -> bool
 {
     let mut all = true;
     for x in s {
-        all &= x.wide() < bound;
+        all &= x.is_below(bound);
     }
     all
-}
-
-pub fn all_below_wide(s: &[u64], bound: usize) -> bool
-    ensures { result ≡ every (below bound) s.now }
-{
-    all_below(s, bound)
 }
 
 pub fn never_falls(s: &[u32]) -> bool
     ensures { result ≡ rising s.now }
 {
-    s.is_sorted()
+    for i in 1..s.len() {
+        if s[i - 1] > s[i] {
+            return false;
+        }
+    }
+    true
 }
