@@ -4,7 +4,6 @@ use Rattle.std.specs.Prelude.{Ok, Err}
 use Rattle.base.specs.Checks.{Check, answer}
 use Prim.Native.Nat.{ℕ}
 use native.Mathlib.Omega.{arith}
-use Rattle.base.specs.Checks.{after}
 use Rattle.base.specs.declared.Refusal.{Refusal}
 use Rattle.binding.specs.declared.Counts.{Counts}
 use Rattle.binding.specs.declared.RowCounts.{RowCounts}

@@ -110,35 +110,33 @@ module _ (n : ℕ) (region : List ℕ) (s entries : ℕ → ℕ → Bool) where
   abbrev check : ℕ → Check
   check k = row_faults n p (s (member_at n p k)) (entries (member_at n p k))
 
-  -- the rows of the members below r pass, and the mask is empty
-  pub record Checking (seen : List ℕ) (r : ℕ) : Type 0 where
+  -- the rows of the members below r pass
+  pub record Checking (r : ℕ) : Type 0 where
     pub within : r ≤ n
     pub member : r < n → T (in_mask region r)
     pub passed : checks_below (count_below r p) check ≡ Ok tt
-    pub empty : seen ≡ mask_words n (λ i. false)
 
-  pub check_first : (seen : List ℕ) (r : ℕ) → Next n region 0 r → seen ≡ mask_words n (λ i. false) → Checking seen r
-  check_first seen r next e =
-      record { within = next.within; member = next.member; passed = ap (λ (k : ℕ). checks_below k check) (sym (count-first n region r next)) ∙ checks-none check; empty = e }
+  pub check_first : (r : ℕ) → Next n region 0 r → Checking r
+  check_first r next =
+      record { within = next.within; member = next.member; passed = ap (λ (k : ℕ). checks_below k check) (sym (count-first n region r next)) ∙ checks-none check }
 
-  module _ (seen : List ℕ) (r : ℕ) (inv : Checking seen r) (l : r < n) where
+  module _ (r : ℕ) (inv : Checking r) (l : r < n) where
     -- r is member number `count_below r p`
     own : row_faults n p (s r) (entries r) ≡ check (count_below r p)
     own = ap (λ (i : ℕ). row_faults n p (s i) (entries i)) (sym (get_or-count n p r l (inv.member l)))
 
-    pub check_stop : (x : Check) (f : Refusal) → x ≡ row_faults n p (s r) (entries r) → x ≡ Err f → Err f ≡ binding_check n p s entries
+    pub check_stop : (f : Refusal) → row_faults n p (s r) (entries r) ≡ Err f → binding_check n p s entries ≡ Err f
     unfolding binding_check
-    check_stop x f e h = sym (checks-stop (count_below n p) (count_below r p) check f (count-member n p r l (inv.member l)) inv.passed (sym own ∙ sym e ∙ h))
+    check_stop f h = checks-stop (count_below n p) (count_below r p) check f (count-member n p r l (inv.member l)) inv.passed (sym own ∙ h)
 
-    pub check_turn : (x : Check) → x ≡ row_faults n p (s r) (entries r) → x ≡ Ok tt → (seen' : List ℕ) (r' : ℕ) → Next n region (r + 1) r' → seen' ≡ mask_words n (λ i. false) → Checking seen' r'
-    check_turn x e h seen' r' next z =
+    pub check_turn : row_faults n p (s r) (entries r) ≡ Ok tt → (r' : ℕ) → Next n region (r + 1) r' → Checking r'
+    check_turn h r' next =
         record {
           within = next.within;
           member = next.member;
-          passed = ap (λ (k : ℕ). checks_below k check) (sym (count_turn n region r r' (inv.member l) next)) ∙ checks-next (count_below r p) check inv.passed (sym own ∙ sym e ∙ h);
-          empty = z;
+          passed = ap (λ (k : ℕ). checks_below k check) (sym (count_turn n region r r' (inv.member l) next)) ∙ checks-next (count_below r p) check inv.passed (sym own ∙ h);
         }
 
-  pub check_last : (seen : List ℕ) (r : ℕ) → Checking seen r → n ≤ r → (Ok tt) ≡ binding_check n p s entries
+  pub check_last : (r : ℕ) → Checking r → n ≤ r → binding_check n p s entries ≡ Ok tt
   unfolding binding_check
-  check_last seen r inv l = let e : r ≡ n = omega (arith, inv.within) in sym (ap (λ (k : ℕ). checks_below (count_below k p) check) (sym e) ∙ inv.passed)
+  check_last r inv l = let e : r ≡ n = omega (arith, inv.within) in sym (ap (λ (k : ℕ). checks_below (count_below k p) check) e) ∙ inv.passed

@@ -2,6 +2,8 @@
 -- Assumes nothing.
 use mathlib.Core.Path.{◌≡◌, refl, sym, ap, ap₂, ◌∙◌, subst}
 use mathlib.Core.Logic.{◌⊎◌, inl, inr}
+use Rattle.std.specs.Prelude.{Some}
+use Rattle.std.proofs.lemmas.Option.{same_Some}
 use mathlib.Core.Bool.{Bool, true, false, not, cond, ◌&&◌, ◌||◌}
 use mathlib.Core.List.{List}
 use Prim.Native.Nat.{ℕ, zero, suc, ◌+◌, ◌-◌, ◌*◌, ◌/◌, ◌%◌, ◌^◌, ◌≤◌, ◌<◌}
@@ -28,7 +30,7 @@ use Rattle.side.specs.Check.{Rising, IsSide}
 use Rattle.side.proofs.Holding.{holds-none, holds-next}
 use Rattle.pattern.specs.Pattern.{inside}
 use Rattle.pattern.proofs.Rows.{kept_in, kept-none, kept_next, kept-le, row_kept}
-use Rattle.binding.specs.Steps.{RunOf, row_sources}
+use Rattle.binding.specs.Steps.{RunOf, Followed}
 use Rattle.binding.specs.declared.Run.{Run}
 use Rattle.binding.proofs.Sources.{counted, count-start, count_next, count-more}
 
@@ -175,32 +177,21 @@ module _ (cols : List ℕ) (from to word inside : ℕ) where
 
 module _ (idx masks cols : List ℕ) (from first : ℕ) where
   -- the words before k hold the columns of the entries before e
-  pub record Matching (to end k e : ℕ) : Type 0 where
-    pub since : from ≤ k
-    pub within : k ≤ to
+  pub record Matching (end k e : ℕ) : Type 0 where
     pub after : first ≤ e
     pub inside : e ≤ end
     pub same : (c : ℕ) → row_holds idx masks from k c ≡ is_in c (slice first e cols)
 
-  pub same_start : (to end : ℕ) → from ≤ to → to ≤ length idx → to ≤ length masks → first ≤ end → Matching to end from first
-  same_start to end h hi hm f =
-      record {
-        since = omega arith;
-        within = h;
-        after = omega arith;
-        inside = f;
-        same = λ c. holds-none idx masks from c (omega arith) (omega arith) ∙ sym (in-empty c first cols);
-      }
+  pub same_start : (end : ℕ) → from ≤ length idx → from ≤ length masks → first ≤ end → Matching end from first
+  same_start end hi hm f = record { after = omega arith; inside = f; same = λ c. holds-none idx masks from c hi hm ∙ sym (in-empty c first cols) }
 
-  pub same_turn : (to end k e : ℕ) → to ≤ length idx → to ≤ length masks → Rising idx from to → end ≤ length cols → Matching to end k e → k < to
-      → (inside : ℕ) (run : Run) → RunOf cols e end (get_or idx k 0) inside run → run.bits ≡ get_or masks k 0 → Matching to end (k + 1) run.end
-  same_turn to end k e hi hm ris hc inv l inside run o eq =
+  pub same_turn : (to end k e : ℕ) → from ≤ k → to ≤ length idx → to ≤ length masks → Rising idx from to → end ≤ length cols → Matching end k e → k < to
+      → (inside : ℕ) (run : Run) → RunOf cols e end (get_or idx k 0) inside run → run.bits ≡ get_or masks k 0 → Matching end (k + 1) run.end
+  same_turn to end k e h hi hm ris hc inv l inside run o eq =
       record {
-        since = omega (arith, inv.since);
-        within = omega arith;
         after = omega (arith, inv.after, o.since);
         inside = o.within;
-        same = λ c. holds-next idx masks from k inv.since (omega arith) (omega arith) (λ i j a b d. ris i j a b (omega arith)) c
+        same = λ c. holds-next idx masks from k h (omega arith) (omega arith) (λ i j a b d. ris i j a b (omega arith)) c
             ∙ ap₂ ◌||◌ (inv.same c) (sym (own c (eq-or-ne (c / 64) w)))
             ∙ sym (in_parts c first e run.end cols inv.after o.since (omega (arith, o.within)));
       }
@@ -227,11 +218,6 @@ module _ (idx masks cols : List ℕ) (from first : ℕ) where
               let r : (j : ℕ) × (e ≤ j) × (j < run.end) × (get_or cols j 0 ≡ c) = in-slice-where c e run.end cols (omega (arith, o.within)) t in
               ne (ap (λ (x : ℕ). x / 64) (sym r.3) ∙ o.here r.0 r.1 r.2)
 
-  pub same_end : (to end k e : ℕ) → Matching to end k e → to ≤ k → e ≡ end → (c : ℕ) → row_holds idx masks from to c ≡ is_in c (slice first end cols)
-  same_end to end k e inv h q c =
-      let s : to ≡ k = omega (arith, inv.within) in
-      ap (λ (x : ℕ). row_holds idx masks from x c) s ∙ inv.same c ∙ ap (λ (x : ℕ). is_in c (slice first x cols)) q
-
 -- ---- what those words and entries hold inside the region
 
 module _ (idx masks region cols : List ℕ) (from first : ℕ) where
@@ -240,15 +226,15 @@ module _ (idx masks region cols : List ℕ) (from first : ℕ) where
   held i = in_mask region (get_or cols i 0)
 
   -- the words before k and the entries before e are matched and counted
-  pub record Following (to end k e pairs sources : ℕ) : Type 0 where
-    pub match : Matching idx masks cols from first to end k e
+  pub record Following (end k e pairs sources : ℕ) : Type 0 where
+    pub match : Matching idx masks cols from first end k e
     pub by_pairs : pairs ≡ kept_in idx masks region from k
     pub by_sources : sources ≡ counted held first e
 
-  pub follow_start : (to end : ℕ) → Matching idx masks cols from first to end from first → Following to end from first 0 0
-  follow_start to end m = record { match = m; by_pairs = sym (kept-none idx masks region from); by_sources = count-start held first }
+  pub follow_start : (end : ℕ) → Matching idx masks cols from first end from first → Following end from first 0 0
+  follow_start end m = record { match = m; by_pairs = sym (kept-none idx masks region from); by_sources = count-start held first }
 
-  module _ (to end k e pairs sources : ℕ) (inv : Following to end k e pairs sources) (run : Run) (o : RunOf cols e end (get_or idx k 0) (get_or region (get_or idx k 0) 0) run) where
+  module _ (end k e pairs sources : ℕ) (inv : Following end k e pairs sources) (run : Run) (o : RunOf cols e end (get_or idx k 0) (get_or region (get_or idx k 0) 0) run) where
     -- a run's sources lie in its word of the region
     run_sources : run.sources ≡ count_below (run.end - e) (λ j. held (e + j))
     unfolding in_mask
@@ -272,75 +258,72 @@ module _ (idx masks region cols : List ℕ) (from first : ℕ) where
           count-le (run.end - e) (λ j. bit_at (get_or region (get_or idx k 0) 0) (get_or cols (e + j) 0 % 64)),
         )
 
-    pub follow_turn : run.bits ≡ get_or masks k 0 → Matching idx masks cols from first to end (k + 1) run.end → Following to end (k + 1) run.end (pairs + run.pairs) (sources + run.sources)
-    follow_turn eq m =
+    pub follow_turn : from ≤ k → run.bits ≡ get_or masks k 0 → Matching idx masks cols from first end (k + 1) run.end → Following end (k + 1) run.end (pairs + run.pairs) (sources + run.sources)
+    follow_turn h eq m =
         record {
           match = m;
-          by_pairs = ap₂ ◌+◌ inv.by_pairs (o.pairs ∙ ap (λ (x : ℕ). count_below 64 (bit_at (bit_and x (get_or region (get_or idx k 0) 0)))) eq) ∙ sym (kept_next idx masks region from k inv.match.since);
+          by_pairs = ap₂ ◌+◌ inv.by_pairs (o.pairs ∙ ap (λ (x : ℕ). count_below 64 (bit_at (bit_and x (get_or region (get_or idx k 0) 0)))) eq) ∙ sym (kept_next idx masks region from k h);
           by_sources = count-more held first e run.end sources run.sources inv.match.after o.since inv.by_sources run_sources;
         }
 
-  -- the words and the entries before e, one each; what differs is collected in `other`
-  pub record Singly (to end k e other sources : ℕ) : Type 0 where
-    pub after : first ≤ e
-    pub within : e ≤ end
-    pub beside : k + first ≡ from + e
-    pub by_sources : sources ≡ counted held first e
-    pub alike : other ≡ 0 → Following to end k e sources sources
+  -- the first i words and entries, one each; what differs is collected in `other`
+  pub record Singly (end i other sources : ℕ) : Type 0 where
+    pub by_sources : sources ≡ counted held first (first + i)
+    pub alike : other ≡ 0 → Following end (from + i) (first + i) sources sources
 
-  pub single_start : (to end : ℕ) → first ≤ end → Matching idx masks cols from first to end from first → Singly to end from first 0 0
-  single_start to end h m =
-      record { after = omega arith; within = h; beside = omega arith; by_sources = count-start held first; alike = λ z. follow_start to end m }
+  pub single_start : (end : ℕ) → Matching idx masks cols from first end from first → Singly end 0 0 0
+  single_start end m = record { by_sources = rw add-zero (count-start held first); alike = λ z. rw (add-zero from, add-zero first) (follow_start end m) }
 
-  module _ (to end k e other sources : ℕ) (inv : Singly to end k e other sources) (long : to + first ≡ from + end) (l : e < end) where
+  module _ (end i other sources : ℕ) (inv : Singly end i other sources) (l : first + i < end) where
     abbrev column : ℕ
-    column = get_or cols e 0
+    column = get_or cols (first + i) 0
 
-    -- entry e is inside, as a number
+    -- entry i is inside, as a number
     abbrev one : ℕ
     one = get_or region (column / 64) 0 / 2 ^ (column % 64) % 2
 
     abbrev differs : ℕ
-    differs = bit_or (bit_xor (get_or idx k 0) (column / 64)) (bit_xor (get_or masks k 0) ((1 * 2 ^ (column % 64)) % 2 ^ 64))
+    differs = bit_or (bit_xor (get_or idx (from + i) 0) (column / 64)) (bit_xor (get_or masks (from + i) 0) ((1 * 2 ^ (column % 64)) % 2 ^ 64))
 
-    pub single_below : k < to
-    single_below = omega (arith, inv.beside)
+    pub single_few : sources ≤ i
+    single_few = omega (arith, inv.by_sources, count-le (first + i - first) (λ j. held (first + j)))
 
-    pub single_few : sources ≤ e
-    single_few = omega (arith, inv.by_sources, count-le (e - first) (λ j. held (first + j)))
-
-    single_counts : sources + one ≡ counted held first (e + 1)
+    single_counts : sources + one ≡ counted held first (first + i + 1)
     unfolding in_mask
-    single_counts = ap (λ (x : ℕ). sources + x) (bit-down (get_or region (column / 64) 0) (column % 64)) ∙ count_next held first e sources (held e) inv.after refl inv.by_sources
+    single_counts = ap (λ (x : ℕ). sources + x) (bit-down (get_or region (column / 64) 0) (column % 64)) ∙ count_next held first (first + i) sources (held (first + i)) (omega arith) refl inv.by_sources
 
-    pub single_turn : to ≤ length idx → to ≤ length masks → Rising idx from to → end ≤ length cols → Singly to end (k + 1) (e + 1) (bit_or other differs) (sources + one)
-    single_turn hi hm ris hc =
+    pub single_turn : (to : ℕ) → from + i < to → to ≤ length idx → to ≤ length masks → Rising idx from to → end ≤ length cols → Singly end (i + 1) (bit_or other differs) (sources + one)
+    single_turn to below hi hm ris hc =
         record {
-          after = omega (arith, inv.after);
-          within = omega arith;
-          beside = omega (arith, inv.beside);
-          by_sources = single_counts;
-          alike = λ z. turn z;
+          by_sources = subst (λ (e : ℕ). sources + one ≡ counted held first e) entry single_counts;
+          alike = λ z. subst (λ (k : ℕ). Following end k (first + (i + 1)) (sources + one) (sources + one)) word (subst (λ (e : ℕ). Following end (from + i + 1) e (sources + one) (sources + one)) entry (turn z));
         }
       where
-        turn : bit_or other differs ≡ 0 → Following to end (k + 1) (e + 1) (sources + one) (sources + one)
+        word : from + i + 1 ≡ from + (i + 1)
+        word = omega arith
+
+        entry : first + i + 1 ≡ first + (i + 1)
+        entry = omega arith
+
+        turn : bit_or other differs ≡ 0 → Following end (from + i + 1) (first + i + 1) (sources + one) (sources + one)
         turn z =
             let o = or-none other differs z in
-            let d = or-none (bit_xor (get_or idx k 0) (column / 64)) (bit_xor (get_or masks k 0) ((1 * 2 ^ (column % 64)) % 2 ^ 64)) o.1 in
-            let w : get_or idx k 0 ≡ column / 64 = xor_same _ _ d.0 in
-            let m : get_or masks k 0 ≡ (1 * 2 ^ (column % 64)) % 2 ^ 64 = xor_same _ _ d.1 in
-            let run = subst (λ (v : ℕ). RunOf cols e end v (get_or region v 0) (up_to cols e end v (get_or region v 0) ((1 * 2 ^ (column % 64)) % 2 ^ 64) (e + 1) one one)) (sym w) (run-single cols e end (column / 64) (get_or region (column / 64) 0) hc l refl) in
-            follow_turn to end k e sources sources (inv.alike o.0) _ run (sym m) (same_turn idx masks cols from first to end k e hi hm ris hc (inv.alike o.0).match single_below _ _ run (sym m))
+            let d = or-none (bit_xor (get_or idx (from + i) 0) (column / 64)) (bit_xor (get_or masks (from + i) 0) ((1 * 2 ^ (column % 64)) % 2 ^ 64)) o.1 in
+            let w : get_or idx (from + i) 0 ≡ column / 64 = xor_same _ _ d.0 in
+            let m : get_or masks (from + i) 0 ≡ (1 * 2 ^ (column % 64)) % 2 ^ 64 = xor_same _ _ d.1 in
+            let run = subst (λ (v : ℕ). RunOf cols (first + i) end v (get_or region v 0) (up_to cols (first + i) end v (get_or region v 0) ((1 * 2 ^ (column % 64)) % 2 ^ 64) (first + i + 1) one one)) (sym w) (run-single cols (first + i) end (column / 64) (get_or region (column / 64) 0) hc l refl) in
+            follow_turn end (from + i) (first + i) sources sources (inv.alike o.0) _ run (omega arith) (sym m) (same_turn idx masks cols from first to end (from + i) (first + i) (omega arith) hi hm ris hc (inv.alike o.0).match below _ _ run (sym m))
 
 -- ---- a row's words and entries, all followed
 pub follow-last : (n : ℕ) (word_ptr idx masks ptr cols region : List ℕ) (r : ℕ) → IsSide n n word_ptr idx masks → IsMask n region → r < n
-    → (k e pairs sources : ℕ) → get_or word_ptr (r + 1) 0 ≤ k → e ≡ get_or ptr (r + 1) 0
-    → Following idx masks region cols (get_or word_ptr r 0) (get_or ptr r 0) (get_or word_ptr (r + 1) 0) (get_or ptr (r + 1) 0) k e pairs sources
-    → ((c : ℕ) → c < n → side_holds word_ptr idx masks r c ≡ stored ptr cols r c) × (pairs ≡ count_below n (inside (in_mask region) (side_holds word_ptr idx masks) r)) × (sources ≡ row_sources (in_mask region) ptr cols r)
+    → (k e pairs sources : ℕ) → k ≡ get_or word_ptr (r + 1) 0 → e ≡ get_or ptr (r + 1) 0
+    → Following idx masks region cols (get_or word_ptr r 0) (get_or ptr r 0) (get_or ptr (r + 1) 0) k e pairs sources
+    → Followed n (in_mask region) (side_holds word_ptr idx masks) ptr cols r (Some (record { pairs = pairs; sources = sources }))
 unfolding stored
-follow-last n word_ptr idx masks ptr cols region r side mask h k e pairs sources l q inv =
-    let last : k ≡ get_or word_ptr (r + 1) 0 = omega (arith, inv.match.within) in (
-      λ i v. same_end idx masks cols _ _ _ _ k e inv.match l q i,
-      inv.by_pairs ∙ ap (kept_in idx masks region (get_or word_ptr r 0)) last ∙ sym (row_kept n word_ptr idx masks region side mask r h),
-      inv.by_sources ∙ ap (counted (λ i. in_mask region (get_or cols i 0)) (get_or ptr r 0)) q,
-    )
+follow-last n word_ptr idx masks ptr cols region r side mask h k e pairs sources l q inv counts told = (
+  λ c v. ap (λ (x : ℕ). row_holds idx masks (get_or word_ptr r 0) x c) (sym l) ∙ inv.match.same c ∙ ap (λ (x : ℕ). is_in c (slice (get_or ptr r 0) x cols)) q,
+  sym (same_Some _ counts told)
+      ∙ ap₂ (λ (a b : ℕ). record { pairs = a; sources = b })
+      (inv.by_pairs ∙ ap (kept_in idx masks region (get_or word_ptr r 0)) l ∙ sym (row_kept n word_ptr idx masks region side mask r h))
+      (inv.by_sources ∙ ap (counted (λ i. in_mask region (get_or cols i 0)) (get_or ptr r 0)) q),
+)

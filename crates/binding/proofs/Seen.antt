@@ -1,4 +1,5 @@
 -- The mask of a row's entries: filled entry by entry, the row's words taken from it, the rest emptied entry by entry. Assumes nothing.
+use Rattle.mask.proofs.Masks.{is-length}
 use mathlib.Core.Path.{◌≡◌, refl, sym, ap, ap₂, ◌∙◌, subst}
 use mathlib.Core.Logic.{◌⊎◌, inl, inr}
 use mathlib.Core.Bool.{Bool, true, false, not, cond, ◌&&◌, ◌||◌, and-true, or_assoc}
@@ -8,7 +9,7 @@ use native.Mathlib.Omega.{arith}
 use borrow.Author.Tests.{eq-eqb, ne_eqb, eqb-true}
 use lib.Bits.{bit_and, bit_or}
 use lib.Dec.{T, ltb, eqb, lt→ltb, ltb→lt, T_not}
-use lib.ListN.{length, get_or, set, length-set}
+use lib.ListN.{length, get_or, set}
 use lib.Seq.{slice}
 use Rattle.base.specs.Checks.{side_limit}
 use Rattle.base.specs.Lists.{is_in}
@@ -113,27 +114,21 @@ module _ (n : ℕ) (idx masks region seen : List ℕ) (from : ℕ) where
   abbrev pub lacking : ℕ → ℕ → Bool
   lacking k c = in_mask region c && row_holds idx masks from k c && not (in_mask seen c)
 
-  pub record Taking (to k : ℕ) (now : List ℕ) (missing : ℕ) : Type 0 where
-    pub since : from ≤ k
-    pub within : k ≤ to
-    pub long : length now ≡ length seen
+  pub record Taking (k : ℕ) (now : List ℕ) (missing : ℕ) : Type 0 where
     pub left : now ≡ mask_words n (taken k)
     pub small : missing < 2 ^ 64
     pub found : not (eqb missing 0) ≡ any_below n (lacking k)
 
-  pub take_start : (to : ℕ) → IsMask n seen → from ≤ to → to ≤ length idx → to ≤ length masks → Taking to from seen 0
-  take_start to m h hi hm =
+  pub take_start : IsMask n seen → from ≤ length idx → from ≤ length masks → Taking from seen 0
+  take_start m hi hm =
       record {
-        since = omega arith;
-        within = h;
-        long = refl;
         left = m.exact ∙ mask-cong n (in_mask seen) (taken from) (λ c l. sym (ap (λ (t : Bool). in_mask seen c && not t) (none c) ∙ and-true (in_mask seen c)));
         small = omega arith;
         found = sym (any_none n (lacking from) (λ c l t. not-T-of (row_holds idx masks from from c) (none c) (and_r (in_mask region c) (row_holds idx masks from from c) (and_l (in_mask region c && row_holds idx masks from from c) (not (in_mask seen c)) t))));
       }
     where
       none : (c : ℕ) → row_holds idx masks from from c ≡ false
-      none c = holds-none idx masks from c (omega arith) (omega arith)
+      none c = holds-none idx masks from c hi hm
 
   module _ (k : ℕ) (h : from ≤ k) (hi : k < length idx) (hm : k < length masks) (ris : Rising idx from (k + 1)) (fits : get_or masks k 0 < 2 ^ 64) (here : get_or idx k 0 < words_needed n) where
     abbrev w : ℕ
@@ -194,13 +189,10 @@ module _ (n : ℕ) (idx masks region seen : List ℕ) (from : ℕ) where
         same false true false s = refl
         same false false p s = refl
 
-    pub take_turn : IsMask n region → (to : ℕ) (now : List ℕ) (missing : ℕ) → Taking to k now missing → k < to
-        → Taking to (k + 1) (set now w (bit_and (get_or now w 0) (2 ^ 64 - 1 - m))) (bit_or missing (bit_and (bit_and m (get_or region w 0)) (2 ^ 64 - 1 - get_or now w 0)))
-    take_turn g to now missing inv l =
+    pub take_turn : IsMask n region → (now : List ℕ) (missing : ℕ) → Taking k now missing
+        → Taking (k + 1) (set now w (bit_and (get_or now w 0) (2 ^ 64 - 1 - m))) (bit_or missing (bit_and (bit_and m (get_or region w 0)) (2 ^ 64 - 1 - get_or now w 0)))
+    take_turn g now missing inv =
         record {
-          since = omega (arith, inv.since);
-          within = omega arith;
-          long = length-set now w _ ∙ inv.long;
           left = ap (λ (x : List ℕ). set x w (bit_and (get_or x w 0) (2 ^ 64 - 1 - m))) inv.left ∙ take_word;
           small = joined_small n w missing _ new inv.small word;
           found = any-joined n w missing _ (lacking k) new inv.small inv.found word
@@ -229,22 +221,16 @@ module _ (n : ℕ) (idx masks region seen : List ℕ) (from : ℕ) where
 
 -- ---- the rest is emptied
 
-module _ (n : ℕ) (cols region seen : List ℕ) (from to : ℕ) where
+module _ (n : ℕ) (cols region seen : List ℕ) (to : ℕ) where
   -- what is inside the region
   abbrev pub within-region : List ℕ → ℕ → Bool
   within-region now c = in_mask region c && in_mask now c
 
   pub record Draining (e : ℕ) (now : List ℕ) (extra : ℕ) : Type 0 where
-    pub since : from ≤ e
-    pub within : e ≤ to
-    pub long : length now ≡ length seen
     pub mask : IsMask n now
     pub ahead : (c : ℕ) → c < n → T (in_mask now c) → T (is_in c (slice e to cols))
     pub small : extra < 2 ^ 64
     pub found : (not (eqb extra 0) || any_below n (within-region now)) ≡ any_below n (within-region seen)
-
-  pub drain_start : from ≤ to → IsMask n seen → ((c : ℕ) → c < n → T (in_mask seen c) → T (is_in c (slice from to cols))) → Draining from seen 0
-  drain_start h m f = record { since = omega arith; within = h; long = refl; mask = m; ahead = f; small = omega arith; found = refl }
 
   module _ (now : List ℕ) (m : IsMask n now) (w : ℕ) (here : w < words_needed n) where
     abbrev rest : ℕ → Bool
@@ -276,9 +262,6 @@ module _ (n : ℕ) (cols region seen : List ℕ) (from to : ℕ) where
       → Draining (e + 1) (set now (get_or cols e 0 / 64) 0) (bit_or extra (bit_and (get_or now (get_or cols e 0 / 64) 0) (get_or region (get_or cols e 0 / 64) 0)))
   drain_turn g hc e now extra inv l u =
       record {
-        since = omega (arith, inv.since);
-        within = omega arith;
-        long = length-set now w 0 ∙ inv.long;
         mask = is-of n left (set now w 0) g.short cleared;
         ahead = λ c v t. later c v (subst (λ (b : Bool). T b) (holds c v) t);
         small = joined_small n w extra _ (within-region now) inv.small word;
@@ -327,14 +310,14 @@ module _ (n : ℕ) (cols region seen : List ℕ) (from to : ℕ) where
       same true true true = refl
       same true true false = refl
 
-  pub drain_end : (e : ℕ) (now : List ℕ) (extra : ℕ) → Draining e now extra → to ≤ e → (not (eqb extra 0) ≡ any_below n (within-region seen)) × (now ≡ mask_words n (λ i. false))
-  drain_end e now extra inv h = (
+  pub drain_end : (e : ℕ) (now : List ℕ) (extra : ℕ) → Draining e now extra → e ≡ to → (not (eqb extra 0) ≡ any_below n (within-region seen)) × (now ≡ mask_words n (λ i. false))
+  drain_end e now extra inv end = (
     sym (ap (λ (b : Bool). not (eqb extra 0) || b) (any_none n (within-region now) (λ c v t. none c v (and_r (in_mask region c) (in_mask now c) t))) ∙ or-false (not (eqb extra 0))) ∙ inv.found,
     inv.mask.exact ∙ mask-cong n (in_mask now) (λ i. false) (λ c v. T_false (in_mask now c) (none c v)),
   )
     where
-      end : e ≡ to
-      end = omega (arith, inv.within)
-
       none : (c : ℕ) → c < n → T (in_mask now c) → ⊥
       none c v t = not-T-of (is_in c (slice e to cols)) (ap (λ (x : ℕ). is_in c (slice x to cols)) end ∙ in-empty c to cols) (inv.ahead c v t)
+
+-- ---- the entries' columns join the mask
+pub ruleset joining = (join-start, join-turn, is-length)

@@ -1,20 +1,22 @@
 -- What the members' rows hold inside the region, counted: the sources of a row, and all rows settled one after the other. Assumes nothing.
-use mathlib.Core.Path.{◌≡◌, refl, sym, ap, ap₂, ◌∙◌, subst}
-use Rattle.std.specs.Prelude.{Result, Ok, Err}
-use Rattle.base.specs.Checks.{Check, answer}
-use mathlib.Core.Bool.{Bool, false}
+use Rattle.mask.proofs.Masks.{mask-length}
+use Rattle.binding.proofs.Rows.{row-entries}
+use mathlib.Core.Path.{◌≡◌, sym, ap, ap₂, ◌∙◌, subst}
+use Rattle.std.specs.Prelude.{Result, Ok, Err, Option, Some}
+use Rattle.base.specs.Checks.{answer}
+use mathlib.Core.Bool.{Bool}
 use mathlib.Core.List.{List}
 use Prim.Native.Nat.{ℕ, zero, suc, ◌+◌, ◌-◌, ◌≤◌, ◌<◌}
 use native.Mathlib.Omega.{arith}
 use native.Mathlib.Nat.{le_refl}
 use lib.Dec.{T}
 use lib.ListN.{get_or}
-use Rattle.base.specs.Checks.{entry_limit, after}
+use Rattle.base.specs.Checks.{entry_limit}
 use Rattle.base.specs.Sets.{one_if, sum_below, sum_over, count_below}
 use Rattle.base.specs.declared.Refusal.{Refusal}
 use Rattle.base.proofs.Checks.{on-accepted, on-refused}
 use Rattle.base.proofs.Sets.{sum-zero, sum-suc, sum-append, count-cong, count-le}
-use Rattle.mask.specs.Mask.{in_mask, mask_words}
+use Rattle.mask.specs.Mask.{in_mask}
 use Rattle.mask.proofs.Nexts.{Next}
 use Rattle.csr32.specs.Matrix.{stored, IsMatrix}
 use Rattle.side.specs.Side.{side_holds}
@@ -23,7 +25,7 @@ use Rattle.pattern.specs.Pattern.{inside, pairs_inside}
 use Rattle.pattern.proofs.Walks.{sum_first, sum-turn, sum_room, count-first, count_turn}
 use Rattle.pattern.proofs.Counting.{kept-within}
 use Rattle.binding.specs.Binding.{row_faults, binding_check}
-use Rattle.binding.specs.Steps.{row_sources, row_counts, counts_of, sources_inside}
+use Rattle.binding.specs.Steps.{row_sources, row_counts, counts_of, Followed}
 use Rattle.binding.specs.declared.RowCounts.{RowCounts}
 use Rattle.binding.specs.declared.Counts.{Counts}
 use Rattle.binding.proofs.Answers.{row-passes, row-stops}
@@ -54,19 +56,12 @@ module _ (p : ℕ → Bool) (from : ℕ) where
 
 -- ---- a row
 
--- a row that binds, from its two counts
-pub row-bound : (n : ℕ) (p : ℕ → Bool) (s : ℕ → ℕ → Bool) (ptr cols : List ℕ) (r a b : ℕ) (x : Check) → x ≡ row_faults n p (s r) (stored ptr cols r) → x ≡ Ok tt
-    → a ≡ count_below n (inside p s r) → b ≡ row_sources p ptr cols r
-    → Ok (record { pairs = a; sources = b }) ≡ answer (row_faults n p (s r) (stored ptr cols r)) (row_counts n p s ptr cols r)
-row-bound n p s ptr cols r a b x e h f g =
-    on-accepted (row_faults n p (s r) (stored ptr cols r)) (Ok (row_counts n p s ptr cols r)) _ Err (sym e ∙ h)
-    (ap₂ (λ (x y : ℕ). Ok (record { pairs = x; sources = y })) f g)
-
 -- a row whose pairs are its entries
-pub row-follows : (n : ℕ) (p : ℕ → Bool) (s : ℕ → ℕ → Bool) (ptr cols : List ℕ) (r a b : ℕ)
-    → ((c : ℕ) → c < n → s r c ≡ stored ptr cols r c) × (a ≡ count_below n (inside p s r)) × (b ≡ row_sources p ptr cols r)
-    → Ok (record { pairs = a; sources = b }) ≡ answer (row_faults n p (s r) (stored ptr cols r)) (row_counts n p s ptr cols r)
-row-follows n p s ptr cols r a b run = row-bound n p s ptr cols r a b (Ok tt) (sym (row-agrees n p (s r) (stored ptr cols r) run.0)) refl run.1 run.2
+pub row-follows : (n : ℕ) (p : ℕ → Bool) (s : ℕ → ℕ → Bool) (ptr cols : List ℕ) (r : ℕ) (k : Option RowCounts) (counts : RowCounts) → Followed n p s ptr cols r k → k ≡ Some counts
+    → Ok counts ≡ answer (row_faults n p (s r) (stored ptr cols r)) (row_counts n p s ptr cols r)
+row-follows n p s ptr cols r k counts run was =
+    let w = run counts was in
+    on-accepted (row_faults n p (s r) (stored ptr cols r)) (Ok (row_counts n p s ptr cols r)) _ Err (row-agrees n p (s r) (stored ptr cols r) w.0) (ap Ok w.1)
 
 -- ---- over the members' rows
 
@@ -90,9 +85,6 @@ pub record Counting (n : ℕ) (region ptr cols : List ℕ) (sources r : ℕ) : T
 module _ (n : ℕ) (region ptr cols : List ℕ) where
   pub sources-first : (r : ℕ) → Next n region 0 r → Counting n region ptr cols 0 r
   sources-first r next = record { within = next.within; member = next.member; by_sources = sum_first n region r (row_sources (in_mask region) ptr cols) next }
-
-  pub sources-last : (sources r : ℕ) → Counting n region ptr cols sources r → n ≤ r → sources ≡ sources_inside n (in_mask region) ptr cols
-  sources-last sources r w l = let e : r ≡ n = omega (arith, w.within) in w.by_sources ∙ ap (λ (k : ℕ). sum_over k (in_mask region) (row_sources (in_mask region) ptr cols)) e
 
   module _ (sources r row : ℕ) (w : Counting n region ptr cols sources r) (l : r < n) (e : row ≡ row_sources (in_mask region) ptr cols r) where
     pub sources_room : IsMatrix n n ptr cols → sources + row ≤ entry_limit
@@ -122,40 +114,43 @@ module _ (n : ℕ) (region word_ptr idx masks ptr cols : List ℕ) where
   bound = answer (binding_check n p s entries) (counts_of n p s ptr cols)
 
   -- the rows of the members below r pass and are counted
-  pub record Settling (seen : List ℕ) (m a b r : ℕ) : Type 0 where
-    pub checked : Checking n region s entries seen r
+  pub record Settling (m a b r : ℕ) : Type 0 where
+    pub checked : Checking n region s entries r
     pub members : m ≡ count_below r p
     pub by_pairs : a ≡ sum_over r p pairs
     pub by_sources : b ≡ sum_over r p sources
 
-  pub settle_first : (seen : List ℕ) (r : ℕ) → Next n region 0 r → seen ≡ mask_words n (λ i. false) → Settling seen 0 0 0 r
-  settle_first seen r next e =
+  pub settle_first : (r : ℕ) → Next n region 0 r → Settling 0 0 0 r
+  settle_first r next =
       record {
-        checked = check_first n region s entries seen r next e;
+        checked = check_first n region s entries r next;
         members = count-first n region r next;
         by_pairs = sum_first n region r pairs next;
         by_sources = sum_first n region r sources next;
       }
 
-  pub settle_last : (seen : List ℕ) (m a b r : ℕ) → Settling seen m a b r → n ≤ r → Ok (record { members = m; pairs = a; sources = b }) ≡ bound
+  pub settle_last : (m a b r : ℕ) → Settling m a b r → n ≤ r → Ok (record { members = m; pairs = a; sources = b }) ≡ bound
   unfolding pairs_inside
-  settle_last seen m a b r inv l =
+  settle_last m a b r inv l =
       let e : r ≡ n = omega (arith, inv.checked.within) in
-      on-accepted (binding_check n p s entries) (Ok (counts_of n p s ptr cols)) _ Err (sym (check_last n region s entries seen r inv.checked l))
+      on-accepted (binding_check n p s entries) (Ok (counts_of n p s ptr cols)) _ Err (check_last n region s entries r inv.checked l)
       (ap Ok
       (same-counts m _ a _ b _ (inv.members ∙ ap (λ (k : ℕ). count_below k p) e) (inv.by_pairs ∙ ap (λ (k : ℕ). sum_over k p pairs) e) (inv.by_sources ∙ ap (λ (k : ℕ). sum_over k p sources) e)))
 
-  module _ (seen : List ℕ) (m a b r : ℕ) (inv : Settling seen m a b r) (l : r < n) (x : Result RowCounts Refusal)
-      (is : x ≡ answer (row_faults n p (s r) (entries r)) (row_counts n p s ptr cols r)) where
-    pub stop_check : (f : Refusal) → x ≡ Err f → binding_check n p s entries ≡ Err f
-    stop_check f told = sym (check_stop n region s entries seen r inv.checked l _ f refl (row-stops _ (row_counts n p s ptr cols r) f (sym told ∙ is)))
+  -- what is said of row r
+  abbrev pub row_answer : ℕ → Result RowCounts Refusal
+  row_answer r = answer (row_faults n p (s r) (entries r)) (row_counts n p s ptr cols r)
 
-    pub settle_stop : (f : Refusal) → x ≡ Err f → Err f ≡ bound
-    settle_stop f told = on-refused (binding_check n p s entries) f (Ok (counts_of n p s ptr cols)) Err (stop_check f told)
+  module _ (m a b r : ℕ) (inv : Settling m a b r) (l : r < n) where
+    pub stop_check : (f : Refusal) → Err f ≡ row_answer r → binding_check n p s entries ≡ Err f
+    stop_check f is = check_stop n region s entries r inv.checked l f (row-stops _ (row_counts n p s ptr cols r) f is)
 
-    module _ (row : RowCounts) (told : x ≡ Ok row) where
+    pub settle_stop : (f : Refusal) → Err f ≡ row_answer r → Err f ≡ bound
+    settle_stop f is = on-refused (binding_check n p s entries) f (Ok (counts_of n p s ptr cols)) Err (stop_check f is)
+
+    module _ (row : RowCounts) (is : Ok row ≡ row_answer r) where
       fine : (row_faults n p (s r) (entries r) ≡ Ok tt) × (row ≡ row_counts n p s ptr cols r)
-      fine = row-passes (row_faults n p (s r) (entries r)) (row_counts n p s ptr cols r) row (sym told ∙ is)
+      fine = row-passes (row_faults n p (s r) (entries r)) (row_counts n p s ptr cols r) row is
 
       pub row_pairs : row.pairs ≡ pairs r
       row_pairs = ap (λ (t : RowCounts). t.pairs) fine.1
@@ -169,11 +164,14 @@ module _ (n : ℕ) (region word_ptr idx masks ptr cols : List ℕ) where
           let f : row.sources ≡ sources r = ap (λ (t : RowCounts). t.sources) fine.1 in
           omega (arith, inv.by_sources, f, sum_room n region r sources l, rows-within n p ptr cols matrix n (le_refl n), matrix.ends, matrix.few_entries)
 
-      pub settle_turn : (seen' : List ℕ) (r' : ℕ) → Next n region (r + 1) r' → seen' ≡ mask_words n (λ i. false) → Settling seen' (m + 1) (a + row.pairs) (b + row.sources) r'
-      settle_turn seen' r' next z =
+      pub settle_turn : (r' : ℕ) → Next n region (r + 1) r' → Settling (m + 1) (a + row.pairs) (b + row.sources) r'
+      settle_turn r' next =
           record {
-            checked = check_turn n region s entries seen r inv.checked l _ refl fine.0 seen' r' next z;
+            checked = check_turn n region s entries r inv.checked l fine.0 r' next;
             members = ap (λ (k : ℕ). k + 1) inv.members ∙ count_turn n region r r' (inv.checked.member l) next;
             by_pairs = ap₂ ◌+◌ inv.by_pairs row_pairs ∙ sum-turn n region r r' pairs (inv.checked.member l) next;
             by_sources = ap₂ ◌+◌ inv.by_sources (ap (λ (t : RowCounts). t.sources) fine.1) ∙ sum-turn n region r r' sources (inv.checked.member l) next;
           }
+
+-- ---- what a call on a row or on a mask asks for
+pub ruleset rows = (row-entries, mask-length)

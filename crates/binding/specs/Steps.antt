@@ -1,5 +1,5 @@
 -- What the steps of the check hand on to one another; no caller of the API needs it.
-use Rattle.std.specs.Prelude.{◌≡◌, Bool, true, ◌&&◌, List, ℕ, ◌+◌, ◌-◌, ◌/◌, ◌%◌, ◌≤◌, ◌<◌, ltb, length, get_or}
+use Rattle.std.specs.Prelude.{◌≡◌, Option, Some, Bool, ◌&&◌, List, ℕ, ◌+◌, ◌-◌, ◌/◌, ◌%◌, ◌≤◌, ◌<◌, ltb, length, get_or}
 use Rattle.std.specs.Int.Bits.{bit_and}
 use Rattle.std.proofs.Math.Seq.{slice}
 use Rattle.base.specs.Checks.{entry_limit}
@@ -9,7 +9,6 @@ use Rattle.word.specs.Bits.{bit_at, word_of}
 use Rattle.csr32.specs.Matrix.{stored}
 use Rattle.pattern.specs.Pattern.{inside, pairs_inside}
 use Rattle.binding.specs.declared.Run.{Run}
-use Rattle.binding.specs.declared.RowRun.{RowRun}
 use Rattle.binding.specs.declared.RowCounts.{RowCounts}
 use Rattle.binding.specs.declared.Counts.{Counts}
 
@@ -41,9 +40,9 @@ sources_inside n p ptr cols = sum_over n p (λ r. row_sources p ptr cols r)
 abbrev pub row_counts : ℕ → (ℕ → Bool) → (ℕ → ℕ → Bool) → List ℕ → List ℕ → ℕ → RowCounts
 row_counts n p s ptr cols r = record { pairs = count_below n (inside p s r); sources = row_sources p ptr cols r }
 
--- what is said of a row whose words are its entries: its pairs are they, and what is inside is counted
-abbrev pub Followed : ℕ → (ℕ → Bool) → (ℕ → ℕ → Bool) → List ℕ → List ℕ → ℕ → RowRun → Type 0
-Followed n p s ptr cols r k = k.same ≡ true → ((c : ℕ) → c < n → s r c ≡ stored ptr cols r c) × (k.pairs ≡ count_below n (inside p s r)) × (k.sources ≡ row_sources p ptr cols r)
+-- what is said of a row whose words are its entries: its pairs are they, and what is inside is counted; none says nothing
+abbrev pub Followed : ℕ → (ℕ → Bool) → (ℕ → ℕ → Bool) → List ℕ → List ℕ → ℕ → Option RowCounts → Type 0
+Followed n p s ptr cols r k = (counts : RowCounts) → k ≡ Some counts → ((c : ℕ) → c < n → s r c ≡ stored ptr cols r c) × (counts ≡ row_counts n p s ptr cols r)
 
 -- member r's row has a pair inside
 abbrev pub has_pair : ℕ → (ℕ → Bool) → (ℕ → ℕ → Bool) → ℕ → Bool

@@ -16,15 +16,6 @@ pub struct Run {
     pub sources: usize,
 }
 
-// What one row holds inside the region: whether its words were found to be its entries, its pairs and its entries. Where they were not, nothing
-// is said.
-#[derive(Clone, Copy)]
-pub struct RowRun {
-    pub same: bool,
-    pub pairs: usize,
-    pub sources: usize,
-}
-
 // What one row that binds holds inside the region.
 #[derive(Clone, Copy)]
 pub struct RowCounts {
@@ -38,11 +29,4 @@ pub struct Counts {
     pub members: usize,
     pub pairs: usize,
     pub sources: usize,
-}
-
-// The same, and whether each row's words were found to be its entries. Where they were not, nothing is said.
-#[derive(Clone, Copy)]
-pub struct MembersRun {
-    pub same: bool,
-    pub counts: Counts,
 }

@@ -3,13 +3,12 @@ use mathlib.Core.Path.{◌≡◌, refl, sym, ap, ap₂, ◌∙◌, subst}
 use Rattle.std.specs.Prelude.{Ok, Err}
 use Rattle.base.specs.Checks.{Check}
 use Rattle.base.specs.declared.Refusal.TheVariants.{PairWithoutEntry, EntryWithoutPair, WrongLength}
-use mathlib.Core.Bool.{Bool, true, false, not, cond, ◌&&◌, ◌||◌}
+use mathlib.Core.Bool.{Bool, true, false, not, ◌&&◌, ◌||◌}
 use mathlib.Core.List.{List}
-use Prim.Native.Nat.{ℕ, zero, suc, ◌^◌, ◌≤◌, ◌<◌}
+use Prim.Native.Nat.{ℕ, zero, suc, ◌≤◌, ◌<◌}
 use native.Mathlib.Omega.{arith}
 use borrow.Author.Tests.{eqb-true, lt-ltb, le-leb}
 use lib.Dec.{eqb}
-use lib.Ieee.{Float}
 use lib.ListN.{length, get_or}
 use Rattle.base.specs.Checks.{must, must_be, ◌then◌, checks_below, side_limit}
 use Rattle.base.specs.Sets.{between, count_below}
@@ -18,16 +17,18 @@ use Rattle.base.proofs.Sets.{any-cong, count-cong, members-ext}
 use Rattle.mask.specs.Mask.{in_mask, length_check, IsMask}
 use Rattle.mask.specs.Answers.{with_range}
 use Rattle.mask.proofs.Masks.{mask-holds, is-of}
-use Rattle.csr32.specs.Matrix.{matrix_check, IsMatrix}
+use Rattle.csr32.specs.declared.Csr32Matrix.{Csr32Matrix}
+use Rattle.csr32.specs.Views.{check_matrix}
 use Rattle.csr32.proofs.Matrix.{accepted}
 use Rattle.side.specs.Check.{IsSide}
-use Rattle.dual_topology.specs.Check.{topology_check, IsTopology}
-use Rattle.dual_topology.proofs.Accepted.{accepted-topology}
+use Rattle.dual_topology.specs.declared.AbtmDualTopology.{AbtmDualTopology}
+use Rattle.dual_topology.specs.Views.{SoundTopology}
 use Rattle.pattern.specs.Pattern.{member_at}
 use Rattle.binding.specs.Binding.{row_faults, binding_check}
 use Rattle.numeric_plan.specs.Plan.{sides_check}
 use Rattle.numeric_plan.proofs.Accepted.{square-matrix}
 use Rattle.claims.specs.Run.{square_topology, pairs_check, arrays_check, run_check, field_run_check}
+use Rattle.claims.specs.Views.{SoundSides}
 
 -- ---- a length as the last check
 
@@ -100,13 +101,12 @@ accepted-sides topology nrows ncols rows cols e =
     record { topology_ok = a.0; as_rows = eqb-true _ _ (passed _ _ d.0); as_cols = square ∙ eqb-true _ _ (passed _ _ d.1); square = square }
 
 -- the rows side and the matrix are of one side
-pub one_side : (nrows ncols : ℕ) (ptr idx masks : List ℕ) (pairs nrows2 ncols2 : ℕ) (ptr2 idx2 masks2 : List ℕ) (pairs2 rows cols : ℕ) (row_ptr col-idx : List ℕ) (values : List Float)
-    → ((k : ℕ) → get_or masks k 0 < 2 ^ 64) → ((k : ℕ) → get_or masks2 k 0 < 2 ^ 64)
-    → matrix_check rows cols row_ptr col-idx values ≡ Ok tt → Sides (topology_check nrows ncols ptr idx masks pairs nrows2 ncols2 ptr2 idx2 masks2 pairs2) nrows ncols rows cols
-    → IsSide nrows nrows ptr idx masks × IsMatrix nrows nrows row_ptr col-idx
-one_side nrows ncols ptr idx masks pairs nrows2 ncols2 ptr2 idx2 masks2 pairs2 rows cols row_ptr col-idx values fits fits2 m s =
-    let t = accepted-topology nrows ncols ptr idx masks pairs nrows2 ncols2 ptr2 idx2 masks2 pairs2 fits fits2 s.topology_ok in
-    ((subst (λ (n : ℕ). IsTopology nrows n ptr idx masks ptr2 idx2 masks2) (sym s.square) t.topology).rows, square-matrix rows cols nrows row_ptr col-idx s.as_rows s.as_cols (accepted rows cols row_ptr col-idx values m).matrix)
+pub sound-sides : (t : AbtmDualTopology) (m : Csr32Matrix) → check_matrix m ≡ Ok tt → t.rows.nrows ≡ m.nrows → t.rows.ncols ≡ m.ncols → t.rows.nrows ≡ t.rows.ncols → SoundTopology t → SoundSides t m
+sound-sides t m e a b square s =
+    record {
+      rows = subst (λ (n : ℕ). IsSide t.rows.nrows n t.rows.row_word_ptr.now t.rows.word_indices.now t.rows.masks.now) (sym square) s.topology.rows;
+      matrix = square-matrix m.nrows m.ncols t.rows.nrows m.row_ptr.now m.col_idx.now a (square ∙ b) (accepted m.nrows m.ncols m.row_ptr.now m.col_idx.now m.values.now e).matrix;
+    }
 
 pub record Arrays (n len : ℕ) (seeds : List ℕ) (s entries : ℕ → ℕ → Bool) (hops rooms : List ℕ) : Type 0 where
   pub mask : length_check n len seeds ≡ Ok tt

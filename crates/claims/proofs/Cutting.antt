@@ -7,7 +7,7 @@ use Prim.Native.Nat.{ℕ, ◌+◌, ◌≤◌}
 use native.Mathlib.Omega.{arith}
 use lib.Ieee.{Float}
 use lib.ListN.{length, take}
-use Rattle.base.specs.Checks.{after, leaves}
+use Rattle.base.specs.Checks.{leaves}
 use Rattle.base.specs.Lists.{over}
 use Rattle.base.specs.declared.Refusal.{Refusal}
 use Rattle.base.proofs.Checks.{on-accepted, on-refused, kept}

@@ -1,6 +1,5 @@
 -- After a list of growths: what is done with the seeds that it left is done with the region of one growth by the total. Assumes nothing.
 use mathlib.Core.Path.{◌≡◌, refl, ap, ◌∙◌}
-use Rattle.base.specs.Checks.{answer}
 use mathlib.Core.Bool.{Bool, true, false, cond}
 use mathlib.Core.List.{List}
 use Prim.Native.Nat.{ℕ}
@@ -13,7 +12,6 @@ use Rattle.claims.specs.Cutting.{plan_cut, cut_answer, values_cut}
 use Rattle.claims.specs.Run.{if_grown}
 use Rattle.growths.specs.declared.Ran.{Ran}
 use Rattle.claims.specs.Run.{with_cut, without_cut}
-use Rattle.std.specs.Prelude.{Err}
 
 -- ---- no step goes by the system's first seeds
 

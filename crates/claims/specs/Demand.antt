@@ -1,7 +1,7 @@
 -- Demand 3, one claim about the whole list of growths. Its inputs, what the later calls give on a region, and what is claimed.
 use Rattle.std.specs.Prelude.{◌≡◌, Bool, true, cond, ◌&&◌, List, map, ◌↔◌, ℕ, ◌+◌, ◌*◌, ◌/◌, ◌%◌, ◌^◌, ◌≤◌, ◌<◌, min, T, leb, Float, length, get_or, take}
 use Rattle.std.specs.Prelude.{Result, Ok}
-use Rattle.base.specs.Checks.{Check, answer}
+use Rattle.base.specs.Checks.{Check}
 use Rattle.base.specs.declared.Refusal.{Refusal}
 use Rattle.base.specs.declared.Refusal.TheVariants.{ListTooShort}
 use Rattle.std.specs.Float.{nan}

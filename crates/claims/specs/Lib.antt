@@ -1,3 +1,4 @@
 pub mod Demand
 pub mod Cutting
 pub mod Run
+pub mod Views

@@ -2,10 +2,10 @@
 -- matrix, the topology, 22, 10, for field growths the layout and 18, the mask, 23 and 24 over all rows, and 11 for the rooms.
 use Rattle.std.specs.Prelude.{Bool, true, cond, List, ℕ, min, eqb, length}
 use Rattle.base.specs.Checks.{Check, answer}
-use Rattle.std.specs.Prelude.{Result, Option, Some, None}
+use Rattle.std.specs.Prelude.{Result, Some, None}
 use Rattle.base.specs.declared.Refusal.{Refusal}
 use Rattle.base.specs.declared.Refusal.TheVariants.{NotSquare}
-use Rattle.base.specs.Checks.{must, must_be, ◌then◌, after, leaves}
+use Rattle.base.specs.Checks.{must, must_be, ◌then◌, leaves}
 use Rattle.mask.specs.Mask.{words_needed, length_check}
 use Rattle.binding.specs.Binding.{binding_check}
 use Rattle.numeric_plan.specs.Plan.{sides_check}

@@ -1,16 +1,30 @@
 // The local system of the region that a list of growths comes to, for callers that have checked: no part of the API.
 ghost use Rattle.std.specs.Prelude.{◌≡◌, false, ◌+◌, ◌≤◌, length, take};
-ghost use Rattle.mask.specs.Mask.{mask_words};
-ghost use Rattle.csr32.specs.Matrix.{stored, IsMatrix};
-ghost use Rattle.side.specs.Side.{side_holds};
-ghost use Rattle.side.specs.Check.{IsSide};
+ghost use Rattle.base.specs.Checks.{answer};
+ghost use Rattle.mask.specs.Mask.{in_mask, mask_words, IsMask};
+ghost use Rattle.csr32.specs.Views.{stores};
+ghost use Rattle.side.specs.Views.{holds};
+ghost use Rattle.binding.specs.Binding.{binding_check};
+ghost use Rattle.binding.specs.Steps.{counts_of};
 ghost use Rattle.gather.specs.Gather.{gather_check, gather_answer, gather_left};
-ghost use Rattle.claims.specs.Cutting.{system_of, plan_cut, cut_answer, values_cut};
-ghost use Rattle.claims.specs.Run.{with_cut, without_cut, pairs_check, arrays_check, if_grown};
+ghost use Rattle.claims.specs.Cutting.{plan_cut, cut_answer, values_cut};
+ghost use Rattle.claims.specs.Run.{with_cut, without_cut, pairs_check, if_grown};
+ghost use Rattle.claims.specs.Views.{lent_system, lent_arrays, SoundSides};
 
 use crate::{Cut, GrowthRun};
 use base::Refusal;
+use binding::Counts;
+use binding::inner::System;
+use csr32::Csr32Matrix;
+use csr32::inner::Matrix;
+use dual_topology::AbtmDualTopology;
+use gather::GatherPlan;
 use growths::Ran;
+use mask::DofMask;
+use mask::inner::Mask;
+use pattern::inner::Local;
+use side::AbtmTopology;
+use side::inner::Side;
 
 // The gather on the first pointers and sources of two lists: a plan's own.
 fn gather_own(
@@ -28,32 +42,20 @@ fn gather_own(
 {
     let pointers = pairs as usize + 1;
     let sources = terms as usize;
-    gather::gather_values(
-        &source_ptr[..pointers],
-        &source_indices[..sources],
+    let plan = GatherPlan {
+        source_ptr: &source_ptr[..pointers],
+        source_indices: &source_indices[..sources],
         source_value_len,
-        values,
-        out,
-    )
+    };
+    plan.gather_values(values, out)
 }
 
-// Pattern, plan and gather on a region, all on one square side of n nodes: the plan on the lists that the pattern left, the gather on the plan's own
-// pointers and sources.
-pub fn cut(
-    n: usize,
-    row_ptr: &[u32],
-    col_idx: &[u32],
-    values: &[f64],
-    row_word_ptr: &[u32],
-    row_word_indices: &[u32],
-    row_masks: &[u64],
-    row_pairs: usize,
-    column_word_ptr: &[u32],
-    column_word_indices: &[u32],
-    column_masks: &[u64],
-    column_pairs: usize,
-    len: usize,
-    region: &[u64],
+// Pattern, plan and gather on a region, all on one square side, the rows' own: the plan on the lists that the pattern left, the gather on the plan's own
+// pointers and sources. Lists that are written are no struct: a clause could not name what each is left with.
+pub fn cut<'a>(
+    topology: AbtmDualTopology<'a>,
+    matrix: Csr32Matrix<'a>,
+    region: DofMask<'a>,
     new_values: &[f64],
     global_nodes: &mut [u32],
     local_row_ptr: &mut [u32],
@@ -62,52 +64,41 @@ pub fn cut(
     source_indices: &mut [u32],
     out: &mut [f64],
 ) -> Cut
-    ensures value { result ≡ cut_answer (system_of n row_ptr.now col_idx.now values.now row_word_ptr.now row_word_indices.now row_masks.now row_pairs column_word_ptr.now column_word_indices.now column_masks.now column_pairs len region.now) region.now global_nodes.old local_row_ptr.old local_col_idx.old source_ptr.old source_indices.old new_values.now out.old }
-    ensures members { global_nodes.new ≡ (plan_cut (system_of n row_ptr.now col_idx.now values.now row_word_ptr.now row_word_indices.now row_masks.now row_pairs column_word_ptr.now column_word_indices.now column_masks.now column_pairs len region.now) region.now global_nodes.old local_row_ptr.old local_col_idx.old source_ptr.old source_indices.old).nodes }
-    ensures pointers { local_row_ptr.new ≡ (plan_cut (system_of n row_ptr.now col_idx.now values.now row_word_ptr.now row_word_indices.now row_masks.now row_pairs column_word_ptr.now column_word_indices.now column_masks.now column_pairs len region.now) region.now global_nodes.old local_row_ptr.old local_col_idx.old source_ptr.old source_indices.old).ptr }
-    ensures columns { local_col_idx.new ≡ (plan_cut (system_of n row_ptr.now col_idx.now values.now row_word_ptr.now row_word_indices.now row_masks.now row_pairs column_word_ptr.now column_word_indices.now column_masks.now column_pairs len region.now) region.now global_nodes.old local_row_ptr.old local_col_idx.old source_ptr.old source_indices.old).columns }
-    ensures starts { source_ptr.new ≡ (plan_cut (system_of n row_ptr.now col_idx.now values.now row_word_ptr.now row_word_indices.now row_masks.now row_pairs column_word_ptr.now column_word_indices.now column_masks.now column_pairs len region.now) region.now global_nodes.old local_row_ptr.old local_col_idx.old source_ptr.old source_indices.old).source_ptr }
-    ensures sources { source_indices.new ≡ (plan_cut (system_of n row_ptr.now col_idx.now values.now row_word_ptr.now row_word_indices.now row_masks.now row_pairs column_word_ptr.now column_word_indices.now column_masks.now column_pairs len region.now) region.now global_nodes.old local_row_ptr.old local_col_idx.old source_ptr.old source_indices.old).sources }
-    ensures gathered { out.new ≡ values_cut (system_of n row_ptr.now col_idx.now values.now row_word_ptr.now row_word_indices.now row_masks.now row_pairs column_word_ptr.now column_word_indices.now column_masks.now column_pairs len region.now) region.now global_nodes.old local_row_ptr.old local_col_idx.old source_ptr.old source_indices.old new_values.now out.old }
+    ensures value { result ≡ cut_answer (lent_system topology.entry matrix.entry region.entry.len region.entry.words.now) region.entry.words.now global_nodes.old local_row_ptr.old local_col_idx.old source_ptr.old source_indices.old new_values.now out.old }
+    ensures members { global_nodes.new ≡ (plan_cut (lent_system topology.entry matrix.entry region.entry.len region.entry.words.now) region.entry.words.now global_nodes.old local_row_ptr.old local_col_idx.old source_ptr.old source_indices.old).nodes }
+    ensures pointers { local_row_ptr.new ≡ (plan_cut (lent_system topology.entry matrix.entry region.entry.len region.entry.words.now) region.entry.words.now global_nodes.old local_row_ptr.old local_col_idx.old source_ptr.old source_indices.old).ptr }
+    ensures columns { local_col_idx.new ≡ (plan_cut (lent_system topology.entry matrix.entry region.entry.len region.entry.words.now) region.entry.words.now global_nodes.old local_row_ptr.old local_col_idx.old source_ptr.old source_indices.old).columns }
+    ensures starts { source_ptr.new ≡ (plan_cut (lent_system topology.entry matrix.entry region.entry.len region.entry.words.now) region.entry.words.now global_nodes.old local_row_ptr.old local_col_idx.old source_ptr.old source_indices.old).source_ptr }
+    ensures sources { source_indices.new ≡ (plan_cut (lent_system topology.entry matrix.entry region.entry.len region.entry.words.now) region.entry.words.now global_nodes.old local_row_ptr.old local_col_idx.old source_ptr.old source_indices.old).sources }
+    ensures gathered { out.new ≡ values_cut (lent_system topology.entry matrix.entry region.entry.len region.entry.words.now) region.entry.words.now global_nodes.old local_row_ptr.old local_col_idx.old source_ptr.old source_indices.old new_values.now out.old }
 {
+    let n = topology.rows.nrows;
+    let square = AbtmDualTopology {
+        rows: AbtmTopology {
+            nrows: n,
+            ncols: n,
+            ..topology.rows
+        },
+        columns: AbtmTopology {
+            nrows: n,
+            ncols: n,
+            ..topology.columns
+        },
+    };
     let extracted = pattern::extract_local_submatrix_pattern(
-        n,
-        n,
-        row_word_ptr,
-        row_word_indices,
-        row_masks,
-        row_pairs,
-        n,
-        n,
-        column_word_ptr,
-        column_word_indices,
-        column_masks,
-        column_pairs,
-        len,
+        square,
         region,
         global_nodes,
         local_row_ptr,
         local_col_idx,
     );
     match numeric_plan::prepare_local_numeric_plan(
-        n,
-        n,
-        row_word_ptr,
-        row_word_indices,
-        row_masks,
-        row_pairs,
-        n,
-        n,
-        column_word_ptr,
-        column_word_indices,
-        column_masks,
-        column_pairs,
-        n,
-        n,
-        row_ptr,
-        col_idx,
-        values,
-        len,
+        square,
+        Csr32Matrix {
+            nrows: n,
+            ncols: n,
+            ..matrix
+        },
         region,
         global_nodes,
         local_row_ptr,
@@ -126,7 +117,7 @@ pub fn cut(
                 source_indices,
                 s.local_nnz,
                 s.source_terms,
-                col_idx.len(),
+                matrix.col_idx.len(),
                 new_values,
                 out,
             );
@@ -140,22 +131,11 @@ pub fn cut(
 }
 
 // The local system of the region that a list of growths came to, where one was accepted.
-pub fn finish(
+pub fn finish<'a>(
     ran: Ran,
-    side: usize,
-    row_ptr: &[u32],
-    col_idx: &[u32],
-    values: &[f64],
-    row_word_ptr: &[u32],
-    row_word_indices: &[u32],
-    row_masks: &[u64],
-    structural_nnz: usize,
-    column_word_ptr: &[u32],
-    column_word_indices: &[u32],
-    column_masks: &[u64],
-    column_structural_nnz: usize,
-    len: usize,
-    words: &[u64],
+    topology: AbtmDualTopology<'a>,
+    matrix: Csr32Matrix<'a>,
+    region: DofMask<'a>,
     new_values: &[f64],
     global_nodes: &mut [u32],
     local_row_ptr: &mut [u32],
@@ -164,32 +144,21 @@ pub fn finish(
     source_indices: &mut [u32],
     out: &mut [f64],
 ) -> GrowthRun
-    ensures value { result ≡ if_grown ran (with_cut ran (cut_answer (system_of side row_ptr.now col_idx.now values.now row_word_ptr.now row_word_indices.now row_masks.now structural_nnz column_word_ptr.now column_word_indices.now column_masks.now column_structural_nnz len words.now) words.now global_nodes.old local_row_ptr.old local_col_idx.old source_ptr.old source_indices.old new_values.now out.old)) (without_cut ran) }
-    ensures members { global_nodes.new ≡ if_grown ran (plan_cut (system_of side row_ptr.now col_idx.now values.now row_word_ptr.now row_word_indices.now row_masks.now structural_nnz column_word_ptr.now column_word_indices.now column_masks.now column_structural_nnz len words.now) words.now global_nodes.old local_row_ptr.old local_col_idx.old source_ptr.old source_indices.old).nodes global_nodes.old }
-    ensures pointers { local_row_ptr.new ≡ if_grown ran (plan_cut (system_of side row_ptr.now col_idx.now values.now row_word_ptr.now row_word_indices.now row_masks.now structural_nnz column_word_ptr.now column_word_indices.now column_masks.now column_structural_nnz len words.now) words.now global_nodes.old local_row_ptr.old local_col_idx.old source_ptr.old source_indices.old).ptr local_row_ptr.old }
-    ensures columns { local_col_idx.new ≡ if_grown ran (plan_cut (system_of side row_ptr.now col_idx.now values.now row_word_ptr.now row_word_indices.now row_masks.now structural_nnz column_word_ptr.now column_word_indices.now column_masks.now column_structural_nnz len words.now) words.now global_nodes.old local_row_ptr.old local_col_idx.old source_ptr.old source_indices.old).columns local_col_idx.old }
-    ensures starts { source_ptr.new ≡ if_grown ran (plan_cut (system_of side row_ptr.now col_idx.now values.now row_word_ptr.now row_word_indices.now row_masks.now structural_nnz column_word_ptr.now column_word_indices.now column_masks.now column_structural_nnz len words.now) words.now global_nodes.old local_row_ptr.old local_col_idx.old source_ptr.old source_indices.old).source_ptr source_ptr.old }
-    ensures sources { source_indices.new ≡ if_grown ran (plan_cut (system_of side row_ptr.now col_idx.now values.now row_word_ptr.now row_word_indices.now row_masks.now structural_nnz column_word_ptr.now column_word_indices.now column_masks.now column_structural_nnz len words.now) words.now global_nodes.old local_row_ptr.old local_col_idx.old source_ptr.old source_indices.old).sources source_indices.old }
-    ensures filled { out.new ≡ if_grown ran (values_cut (system_of side row_ptr.now col_idx.now values.now row_word_ptr.now row_word_indices.now row_masks.now structural_nnz column_word_ptr.now column_word_indices.now column_masks.now column_structural_nnz len words.now) words.now global_nodes.old local_row_ptr.old local_col_idx.old source_ptr.old source_indices.old new_values.now out.old) out.old }
+    ensures value { result ≡ if_grown ran (with_cut ran (cut_answer (lent_system topology.entry matrix.entry region.entry.len region.entry.words.now) region.entry.words.now global_nodes.old local_row_ptr.old local_col_idx.old source_ptr.old source_indices.old new_values.now out.old)) (without_cut ran) }
+    ensures members { global_nodes.new ≡ if_grown ran (plan_cut (lent_system topology.entry matrix.entry region.entry.len region.entry.words.now) region.entry.words.now global_nodes.old local_row_ptr.old local_col_idx.old source_ptr.old source_indices.old).nodes global_nodes.old }
+    ensures pointers { local_row_ptr.new ≡ if_grown ran (plan_cut (lent_system topology.entry matrix.entry region.entry.len region.entry.words.now) region.entry.words.now global_nodes.old local_row_ptr.old local_col_idx.old source_ptr.old source_indices.old).ptr local_row_ptr.old }
+    ensures columns { local_col_idx.new ≡ if_grown ran (plan_cut (lent_system topology.entry matrix.entry region.entry.len region.entry.words.now) region.entry.words.now global_nodes.old local_row_ptr.old local_col_idx.old source_ptr.old source_indices.old).columns local_col_idx.old }
+    ensures starts { source_ptr.new ≡ if_grown ran (plan_cut (lent_system topology.entry matrix.entry region.entry.len region.entry.words.now) region.entry.words.now global_nodes.old local_row_ptr.old local_col_idx.old source_ptr.old source_indices.old).source_ptr source_ptr.old }
+    ensures sources { source_indices.new ≡ if_grown ran (plan_cut (lent_system topology.entry matrix.entry region.entry.len region.entry.words.now) region.entry.words.now global_nodes.old local_row_ptr.old local_col_idx.old source_ptr.old source_indices.old).sources source_indices.old }
+    ensures filled { out.new ≡ if_grown ran (values_cut (lent_system topology.entry matrix.entry region.entry.len region.entry.words.now) region.entry.words.now global_nodes.old local_row_ptr.old local_col_idx.old source_ptr.old source_indices.old new_values.now out.old) out.old }
 {
     if ran.accepted == 0 {
         return GrowthRun { ran, cut: None };
     }
     let local = cut(
-        side,
-        row_ptr,
-        col_idx,
-        values,
-        row_word_ptr,
-        row_word_indices,
-        row_masks,
-        structural_nnz,
-        column_word_ptr,
-        column_word_indices,
-        column_masks,
-        column_structural_nnz,
-        len,
-        words,
+        topology,
+        matrix,
+        region,
         new_values,
         global_nodes,
         local_row_ptr,
@@ -204,84 +173,68 @@ pub fn finish(
     }
 }
 
-// 23 and 24 over all rows, by a mask that is filled here.
-fn check_filled(
-    n: usize,
-    row_word_ptr: &[u32],
-    row_word_indices: &[u32],
-    row_masks: &[u64],
-    row_ptr: &[u32],
-    col_idx: &[u32],
-    all: &mut [u64],
-) -> Result<(), Refusal>
-    requires { IsSide n n row_word_ptr.now row_word_indices.now row_masks.now × IsMatrix n n row_ptr.now col_idx.now × (all.old ≡ mask_words n (λ i. false)) }
-    ensures { result ≡ pairs_check n (side_holds row_word_ptr.now row_word_indices.now row_masks.now) (stored row_ptr.now col_idx.now) }
-{
-    mask::inner::add_range(n, all, 0, n);
-    binding::inner::bind(
-        n,
-        row_word_ptr,
-        row_word_indices,
-        row_masks,
-        row_ptr,
-        col_idx,
-        all,
-    )?;
-    Ok(())
+// A topology and a matrix that were accepted, of the same nodes.
+#[derive(Clone, Copy)]
+pub struct Compared<'a> {
+    pub topology: AbtmDualTopology<'a>,
+    pub matrix: Csr32Matrix<'a>,
+    ghost square: { SoundSides topology matrix },
 }
 
-// The same with a mask of its own: 16,384 words hold the 1,048,576 nodes that a matrix has at most.
-fn check_pairs(
-    n: usize,
-    row_word_ptr: &[u32],
-    row_word_indices: &[u32],
-    row_masks: &[u64],
-    row_ptr: &[u32],
-    col_idx: &[u32],
-) -> Result<(), Refusal>
-    requires { IsSide n n row_word_ptr.now row_word_indices.now row_masks.now × IsMatrix n n row_ptr.now col_idx.now }
-    ensures { result ≡ pairs_check n (side_holds row_word_ptr.now row_word_indices.now row_masks.now) (stored row_ptr.now col_idx.now) }
-{
-    let mut all: [u64; 16384] = [0; 16384];
-    let need = mask::inner::words_for(n);
-    check_filled(
-        n,
-        row_word_ptr,
-        row_word_indices,
-        row_masks,
-        row_ptr,
-        col_idx,
-        &mut all[0..need],
-    )
-}
-
-// The mask, 23 and 24 over all rows, and one room for each growth.
-pub fn check_arrays(
-    n: usize,
-    row_word_ptr: &[u32],
-    row_word_indices: &[u32],
-    row_masks: &[u64],
-    row_ptr: &[u32],
-    col_idx: &[u32],
-    len: usize,
-    seeds: &[u64],
-    hops: &[u64],
-    rooms: &[u64],
-) -> Result<(), Refusal>
-    requires { IsSide n n row_word_ptr.now row_word_indices.now row_masks.now × IsMatrix n n row_ptr.now col_idx.now }
-    ensures { result ≡ arrays_check n len seeds.now (side_holds row_word_ptr.now row_word_indices.now row_masks.now) (stored row_ptr.now col_idx.now) hops.now rooms.now }
-{
-    mask::inner::check_length(n, len, seeds)?;
-    check_pairs(
-        n,
-        row_word_ptr,
-        row_word_indices,
-        row_masks,
-        row_ptr,
-        col_idx,
-    )?;
-    if rooms.len() != hops.len() {
-        return Err(Refusal::wrong_length(hops.len(), rooms.len()));
+impl<'a> Compared<'a> {
+    // 23 and 24 over a mask's rows, and what they hold.
+    fn bind(self, words: &'a [u64]) -> Result<Counts, Refusal>
+        requires { IsMask self.topology.rows.nrows words.now }
+        ensures { result ≡ answer (binding_check self.entry.topology.rows.nrows (in_mask words.now) (holds self.entry.topology.rows) (stores self.entry.matrix)) (counts_of self.entry.topology.rows.nrows (in_mask words.now) (holds self.entry.topology.rows) self.entry.matrix.row_ptr.now self.entry.matrix.col_idx.now) }
+    {
+        let n = self.topology.rows.nrows;
+        let rows = Side {
+            nrows: n,
+            ncols: n,
+            row_word_ptr: self.topology.rows.row_word_ptr,
+            word_indices: self.topology.rows.word_indices,
+            masks: self.topology.rows.masks,
+        };
+        let matrix = Matrix {
+            nrows: n,
+            ncols: n,
+            row_ptr: self.matrix.row_ptr,
+            col_idx: self.matrix.col_idx,
+        };
+        let region = Mask { len: n, words };
+        let local = Local { rows, region };
+        System { local, matrix }.bind()
     }
-    Ok(())
+
+    // The same over all rows, by a mask that is filled here.
+    fn check_filled(self, all: &mut [u64]) -> Result<(), Refusal>
+        requires { all.old ≡ mask_words self.topology.rows.nrows (λ i. false) }
+        ensures { result ≡ pairs_check self.entry.topology.rows.nrows (holds self.entry.topology.rows) (stores self.entry.matrix) }
+    {
+        let n = self.topology.rows.nrows;
+        mask::inner::add_range(n, all, 0, n);
+        self.bind(all)?;
+        Ok(())
+    }
+
+    // The same with a mask of its own: 16,384 words hold the 1,048,576 nodes that a matrix has at most.
+    fn check_pairs(self) -> Result<(), Refusal>
+        ensures { result ≡ pairs_check self.entry.topology.rows.nrows (holds self.entry.topology.rows) (stores self.entry.matrix) }
+    {
+        let mut all: [u64; 16384] = [0; 16384];
+        let need = mask::inner::words_for(self.topology.rows.nrows);
+        self.check_filled(&mut all[0..need])
+    }
+
+    // The mask, 23 and 24 over all rows, and one room for each growth.
+    pub fn check_arrays(self, seeds: DofMask, hops: &[u64], rooms: &[u64]) -> Result<(), Refusal>
+        ensures { result ≡ lent_arrays self.entry.topology self.entry.matrix seeds.entry.len seeds.entry.words.now hops.now rooms.now }
+    {
+        mask::inner::check_length(self.topology.rows.nrows, seeds.len, seeds.words)?;
+        self.check_pairs()?;
+        if rooms.len() != hops.len() {
+            return Err(Refusal::wrong_length(hops.len(), rooms.len()));
+        }
+        Ok(())
+    }
 }

@@ -2,19 +2,24 @@
 // theorem speaks of: a list of growths, then pattern, plan and gather on the region that it comes to.
 #![tactic(auto)]
 
-ghost use Rattle.std.specs.Prelude.{◌≡◌};
+ghost use Rattle.std.specs.Prelude.{◌≡◌, IfOk};
 ghost use Rattle.base.specs.Checks.{leaves};
-ghost use Rattle.csr32.specs.Matrix.{matrix_check, stored};
-ghost use Rattle.dof_layout.specs.Answers.{square_check};
-ghost use Rattle.side.specs.Side.{side_holds};
-ghost use Rattle.dual_topology.specs.Check.{topology_check};
-ghost use Rattle.graph.specs.Network.{plain_network, field_network, region_words};
+ghost use Rattle.csr32.specs.Views.{check_matrix};
+ghost use Rattle.graph.specs.Network.{region_words};
+ghost use Rattle.region.specs.Views.{plain};
+ghost use Rattle.field_region.specs.Views.{blocked};
 ghost use Rattle.growths.specs.Counts.{seeds_after, region_once_grown, frontier_once_grown, scratch_once_grown};
-ghost use Rattle.claims.specs.Cutting.{system_of, plan_cut, cut_answer, values_cut};
-ghost use Rattle.claims.specs.Run.{square_topology, arrays_check, run_check, field_run_check, ran_by, run_answer, run_left};
+ghost use Rattle.claims.specs.Cutting.{plan_cut, cut_answer, values_cut};
+ghost use Rattle.claims.specs.Run.{ran_by, run_answer, run_left};
+ghost use Rattle.claims.specs.Views.{lent_sides, lent_run, lent_field_run, lent_system, SoundSides};
 
 use base::Refusal;
+use csr32::Csr32Matrix;
+use dof_layout::FieldAwareDofLayout;
+use dual_topology::AbtmDualTopology;
 use growths::Ran;
+use inner::Compared;
+use mask::DofMask;
 use numeric_plan::AbtmLocalNumericPlanStats;
 use pattern::AbtmLocalSubmatrixPatternStats;
 
@@ -36,199 +41,65 @@ pub struct GrowthRun {
 }
 
 // The topology, its sides against the matrix's, its shape.
-fn check_sides(
-    nrows: usize,
-    ncols: usize,
-    row_word_ptr: &[u32],
-    row_word_indices: &[u32],
-    row_masks: &[u64],
-    structural_nnz: usize,
-    column_nrows: usize,
-    column_ncols: usize,
-    column_word_ptr: &[u32],
-    column_word_indices: &[u32],
-    column_masks: &[u64],
-    column_structural_nnz: usize,
-    matrix_nrows: usize,
-    matrix_ncols: usize,
-) -> Result<(), Refusal>
-    ensures { result ≡ square_topology (topology_check nrows ncols row_word_ptr.now row_word_indices.now row_masks.now structural_nnz column_nrows column_ncols column_word_ptr.now column_word_indices.now column_masks.now column_structural_nnz) nrows ncols matrix_nrows matrix_ncols }
+#[tactic(auto, using(base::proofs::Checks::checks), unfolding(crate::specs::Run::square_topology, numeric_plan::specs::Plan::sides_check))]
+fn check_sides(topology: AbtmDualTopology, matrix: Csr32Matrix) -> Result<(), Refusal>
+    requires { check_matrix matrix ≡ Ok tt }
+    ensures value { result ≡ lent_sides topology.entry matrix.entry }
+    ensures accepted { IfOk result (λ t. SoundSides topology.entry matrix.entry) }
 {
-    dual_topology::validate(
-        nrows,
-        ncols,
-        row_word_ptr,
-        row_word_indices,
-        row_masks,
-        structural_nnz,
-        column_nrows,
-        column_ncols,
-        column_word_ptr,
-        column_word_indices,
-        column_masks,
-        column_structural_nnz,
-    )?;
-    if nrows != matrix_nrows {
+    topology.validate()?;
+    if topology.rows.nrows != matrix.nrows {
         return Err(Refusal::SidesDiffer);
     }
-    if ncols != matrix_ncols {
+    if topology.rows.ncols != matrix.ncols {
         return Err(Refusal::SidesDiffer);
     }
-    if nrows != ncols {
+    if topology.rows.nrows != topology.rows.ncols {
         return Err(Refusal::NotSquare);
     }
     Ok(())
 }
 
 // The matrix, the topology and its sides, the arrays.
+#[tactic(auto, using(base::proofs::Checks::checks), unfolding(crate::specs::Run::run_check))]
 fn check_run(
-    nrows: usize,
-    ncols: usize,
-    row_word_ptr: &[u32],
-    row_word_indices: &[u32],
-    row_masks: &[u64],
-    structural_nnz: usize,
-    column_nrows: usize,
-    column_ncols: usize,
-    column_word_ptr: &[u32],
-    column_word_indices: &[u32],
-    column_masks: &[u64],
-    column_structural_nnz: usize,
-    matrix_nrows: usize,
-    matrix_ncols: usize,
-    row_ptr: &[u32],
-    col_idx: &[u32],
-    values: &[f64],
-    len: usize,
-    seeds: &[u64],
+    topology: AbtmDualTopology,
+    matrix: Csr32Matrix,
+    seeds: DofMask,
     hops: &[u64],
     rooms: &[u64],
 ) -> Result<(), Refusal>
-    ensures { result ≡ run_check (matrix_check matrix_nrows matrix_ncols row_ptr.now col_idx.now values.now) (square_topology (topology_check nrows ncols row_word_ptr.now row_word_indices.now row_masks.now structural_nnz column_nrows column_ncols column_word_ptr.now column_word_indices.now column_masks.now column_structural_nnz) nrows ncols matrix_nrows matrix_ncols) (arrays_check nrows len seeds.now (side_holds row_word_ptr.now row_word_indices.now row_masks.now) (stored row_ptr.now col_idx.now) hops.now rooms.now) }
+    ensures { result ≡ lent_run topology.entry matrix.entry seeds.entry.len seeds.entry.words.now hops.now rooms.now }
 {
-    csr32::validate(matrix_nrows, matrix_ncols, row_ptr, col_idx, values)?;
-    check_sides(
-        nrows,
-        ncols,
-        row_word_ptr,
-        row_word_indices,
-        row_masks,
-        structural_nnz,
-        column_nrows,
-        column_ncols,
-        column_word_ptr,
-        column_word_indices,
-        column_masks,
-        column_structural_nnz,
-        matrix_nrows,
-        matrix_ncols,
-    )?;
-    inner::check_arrays(
-        nrows,
-        row_word_ptr,
-        row_word_indices,
-        row_masks,
-        row_ptr,
-        col_idx,
-        len,
-        seeds,
-        hops,
-        rooms,
-    )
+    matrix.validate()?;
+    check_sides(topology, matrix)?;
+    Compared { topology, matrix }.check_arrays(seeds, hops, rooms)
 }
 
 // The same with the layout against the topology.
+#[tactic(auto, using(base::proofs::Checks::checks), unfolding(crate::specs::Run::field_run_check))]
 fn check_field_run(
-    nrows: usize,
-    ncols: usize,
-    row_word_ptr: &[u32],
-    row_word_indices: &[u32],
-    row_masks: &[u64],
-    structural_nnz: usize,
-    column_nrows: usize,
-    column_ncols: usize,
-    column_word_ptr: &[u32],
-    column_word_indices: &[u32],
-    column_masks: &[u64],
-    column_structural_nnz: usize,
-    matrix_nrows: usize,
-    matrix_ncols: usize,
-    row_ptr: &[u32],
-    col_idx: &[u32],
-    values: &[f64],
-    entity_kinds: &[u8],
-    entity_ids: &[u64],
-    field_ids: &[u32],
-    components: &[u32],
-    offsets: &[u64],
-    len: usize,
-    seeds: &[u64],
+    topology: AbtmDualTopology,
+    matrix: Csr32Matrix,
+    layout: FieldAwareDofLayout,
+    seeds: DofMask,
     hops: &[u64],
     rooms: &[u64],
 ) -> Result<(), Refusal>
-    ensures { result ≡ field_run_check (matrix_check matrix_nrows matrix_ncols row_ptr.now col_idx.now values.now) (square_topology (topology_check nrows ncols row_word_ptr.now row_word_indices.now row_masks.now structural_nnz column_nrows column_ncols column_word_ptr.now column_word_indices.now column_masks.now column_structural_nnz) nrows ncols matrix_nrows matrix_ncols) (square_check entity_kinds.now entity_ids.now field_ids.now components.now offsets.now nrows ncols) (arrays_check nrows len seeds.now (side_holds row_word_ptr.now row_word_indices.now row_masks.now) (stored row_ptr.now col_idx.now) hops.now rooms.now) }
+    ensures { result ≡ lent_field_run topology.entry matrix.entry layout.entry seeds.entry.len seeds.entry.words.now hops.now rooms.now }
 {
-    csr32::validate(matrix_nrows, matrix_ncols, row_ptr, col_idx, values)?;
-    check_sides(
-        nrows,
-        ncols,
-        row_word_ptr,
-        row_word_indices,
-        row_masks,
-        structural_nnz,
-        column_nrows,
-        column_ncols,
-        column_word_ptr,
-        column_word_indices,
-        column_masks,
-        column_structural_nnz,
-        matrix_nrows,
-        matrix_ncols,
-    )?;
-    dof_layout::validate_square_matrix_size(
-        entity_kinds,
-        entity_ids,
-        field_ids,
-        components,
-        offsets,
-        nrows,
-        ncols,
-    )?;
-    inner::check_arrays(
-        nrows,
-        row_word_ptr,
-        row_word_indices,
-        row_masks,
-        row_ptr,
-        col_idx,
-        len,
-        seeds,
-        hops,
-        rooms,
-    )
+    matrix.validate()?;
+    check_sides(topology, matrix)?;
+    layout.validate_square_matrix_size(topology.rows.nrows, topology.rows.ncols)?;
+    Compared { topology, matrix }.check_arrays(seeds, hops, rooms)
 }
 
 // A list of growths: growth i goes by hops[i], is lent the first rooms[i] words of region, frontier and scratch, as far as they reach, and is seeded with
 // the region of the last accepted one, which `seeds` is left with. Then pattern, plan and gather on that region. What is left is as after one growth by the
-// total of the accepted counts.
-pub fn run_growths(
-    nrows: usize,
-    ncols: usize,
-    row_word_ptr: &[u32],
-    row_word_indices: &[u32],
-    row_masks: &[u64],
-    structural_nnz: usize,
-    column_nrows: usize,
-    column_ncols: usize,
-    column_word_ptr: &[u32],
-    column_word_indices: &[u32],
-    column_masks: &[u64],
-    column_structural_nnz: usize,
-    matrix_nrows: usize,
-    matrix_ncols: usize,
-    row_ptr: &[u32],
-    col_idx: &[u32],
-    values: &[f64],
+// total of the accepted counts. Lists that are written are no struct: a clause could not name what each is left with.
+pub fn run_growths<'a>(
+    topology: AbtmDualTopology<'a>,
+    matrix: Csr32Matrix<'a>,
     len: usize,
     seeds: &mut [u64],
     hops: &[u64],
@@ -244,78 +115,29 @@ pub fn run_growths(
     source_indices: &mut [u32],
     out: &mut [f64],
 ) -> Result<GrowthRun, Refusal>
-    ensures value { result ≡ run_answer (run_check (matrix_check matrix_nrows matrix_ncols row_ptr.now col_idx.now values.now) (square_topology (topology_check nrows ncols row_word_ptr.now row_word_indices.now row_masks.now structural_nnz column_nrows column_ncols column_word_ptr.now column_word_indices.now column_masks.now column_structural_nnz) nrows ncols matrix_nrows matrix_ncols) (arrays_check nrows len seeds.old (side_holds row_word_ptr.now row_word_indices.now row_masks.now) (stored row_ptr.now col_idx.now) hops.now rooms.now)) (ran_by nrows hops.now rooms.now region.old frontier.old scratch.old) (cut_answer (system_of nrows row_ptr.now col_idx.now values.now row_word_ptr.now row_word_indices.now row_masks.now structural_nnz column_word_ptr.now column_word_indices.now column_masks.now column_structural_nnz len seeds.old) (region_words (plain_network nrows (side_holds row_word_ptr.now row_word_indices.now row_masks.now)) seeds.old (ran_by nrows hops.now rooms.now region.old frontier.old scratch.old).total) global_nodes.old local_row_ptr.old local_col_idx.old source_ptr.old source_indices.old new_values.now out.old) }
-    ensures renewed { seeds.new ≡ leaves (run_check (matrix_check matrix_nrows matrix_ncols row_ptr.now col_idx.now values.now) (square_topology (topology_check nrows ncols row_word_ptr.now row_word_indices.now row_masks.now structural_nnz column_nrows column_ncols column_word_ptr.now column_word_indices.now column_masks.now column_structural_nnz) nrows ncols matrix_nrows matrix_ncols) (arrays_check nrows len seeds.old (side_holds row_word_ptr.now row_word_indices.now row_masks.now) (stored row_ptr.now col_idx.now) hops.now rooms.now)) (seeds_after (plain_network nrows (side_holds row_word_ptr.now row_word_indices.now row_masks.now)) (ran_by nrows hops.now rooms.now region.old frontier.old scratch.old) seeds.old) seeds.old }
-    ensures inside { region.new ≡ leaves (run_check (matrix_check matrix_nrows matrix_ncols row_ptr.now col_idx.now values.now) (square_topology (topology_check nrows ncols row_word_ptr.now row_word_indices.now row_masks.now structural_nnz column_nrows column_ncols column_word_ptr.now column_word_indices.now column_masks.now column_structural_nnz) nrows ncols matrix_nrows matrix_ncols) (arrays_check nrows len seeds.old (side_holds row_word_ptr.now row_word_indices.now row_masks.now) (stored row_ptr.now col_idx.now) hops.now rooms.now)) (region_once_grown (plain_network nrows (side_holds row_word_ptr.now row_word_indices.now row_masks.now)) (ran_by nrows hops.now rooms.now region.old frontier.old scratch.old) seeds.old region.old) region.old }
-    ensures edge { frontier.new ≡ leaves (run_check (matrix_check matrix_nrows matrix_ncols row_ptr.now col_idx.now values.now) (square_topology (topology_check nrows ncols row_word_ptr.now row_word_indices.now row_masks.now structural_nnz column_nrows column_ncols column_word_ptr.now column_word_indices.now column_masks.now column_structural_nnz) nrows ncols matrix_nrows matrix_ncols) (arrays_check nrows len seeds.old (side_holds row_word_ptr.now row_word_indices.now row_masks.now) (stored row_ptr.now col_idx.now) hops.now rooms.now)) (frontier_once_grown (plain_network nrows (side_holds row_word_ptr.now row_word_indices.now row_masks.now)) (ran_by nrows hops.now rooms.now region.old frontier.old scratch.old) seeds.old frontier.old) frontier.old }
-    ensures spent { scratch.new ≡ leaves (run_check (matrix_check matrix_nrows matrix_ncols row_ptr.now col_idx.now values.now) (square_topology (topology_check nrows ncols row_word_ptr.now row_word_indices.now row_masks.now structural_nnz column_nrows column_ncols column_word_ptr.now column_word_indices.now column_masks.now column_structural_nnz) nrows ncols matrix_nrows matrix_ncols) (arrays_check nrows len seeds.old (side_holds row_word_ptr.now row_word_indices.now row_masks.now) (stored row_ptr.now col_idx.now) hops.now rooms.now)) (scratch_once_grown (plain_network nrows (side_holds row_word_ptr.now row_word_indices.now row_masks.now)) (ran_by nrows hops.now rooms.now region.old frontier.old scratch.old) scratch.old) scratch.old }
-    ensures members { global_nodes.new ≡ run_left (run_check (matrix_check matrix_nrows matrix_ncols row_ptr.now col_idx.now values.now) (square_topology (topology_check nrows ncols row_word_ptr.now row_word_indices.now row_masks.now structural_nnz column_nrows column_ncols column_word_ptr.now column_word_indices.now column_masks.now column_structural_nnz) nrows ncols matrix_nrows matrix_ncols) (arrays_check nrows len seeds.old (side_holds row_word_ptr.now row_word_indices.now row_masks.now) (stored row_ptr.now col_idx.now) hops.now rooms.now)) (ran_by nrows hops.now rooms.now region.old frontier.old scratch.old) (plan_cut (system_of nrows row_ptr.now col_idx.now values.now row_word_ptr.now row_word_indices.now row_masks.now structural_nnz column_word_ptr.now column_word_indices.now column_masks.now column_structural_nnz len seeds.old) (region_words (plain_network nrows (side_holds row_word_ptr.now row_word_indices.now row_masks.now)) seeds.old (ran_by nrows hops.now rooms.now region.old frontier.old scratch.old).total) global_nodes.old local_row_ptr.old local_col_idx.old source_ptr.old source_indices.old).nodes global_nodes.old }
-    ensures pointers { local_row_ptr.new ≡ run_left (run_check (matrix_check matrix_nrows matrix_ncols row_ptr.now col_idx.now values.now) (square_topology (topology_check nrows ncols row_word_ptr.now row_word_indices.now row_masks.now structural_nnz column_nrows column_ncols column_word_ptr.now column_word_indices.now column_masks.now column_structural_nnz) nrows ncols matrix_nrows matrix_ncols) (arrays_check nrows len seeds.old (side_holds row_word_ptr.now row_word_indices.now row_masks.now) (stored row_ptr.now col_idx.now) hops.now rooms.now)) (ran_by nrows hops.now rooms.now region.old frontier.old scratch.old) (plan_cut (system_of nrows row_ptr.now col_idx.now values.now row_word_ptr.now row_word_indices.now row_masks.now structural_nnz column_word_ptr.now column_word_indices.now column_masks.now column_structural_nnz len seeds.old) (region_words (plain_network nrows (side_holds row_word_ptr.now row_word_indices.now row_masks.now)) seeds.old (ran_by nrows hops.now rooms.now region.old frontier.old scratch.old).total) global_nodes.old local_row_ptr.old local_col_idx.old source_ptr.old source_indices.old).ptr local_row_ptr.old }
-    ensures columns { local_col_idx.new ≡ run_left (run_check (matrix_check matrix_nrows matrix_ncols row_ptr.now col_idx.now values.now) (square_topology (topology_check nrows ncols row_word_ptr.now row_word_indices.now row_masks.now structural_nnz column_nrows column_ncols column_word_ptr.now column_word_indices.now column_masks.now column_structural_nnz) nrows ncols matrix_nrows matrix_ncols) (arrays_check nrows len seeds.old (side_holds row_word_ptr.now row_word_indices.now row_masks.now) (stored row_ptr.now col_idx.now) hops.now rooms.now)) (ran_by nrows hops.now rooms.now region.old frontier.old scratch.old) (plan_cut (system_of nrows row_ptr.now col_idx.now values.now row_word_ptr.now row_word_indices.now row_masks.now structural_nnz column_word_ptr.now column_word_indices.now column_masks.now column_structural_nnz len seeds.old) (region_words (plain_network nrows (side_holds row_word_ptr.now row_word_indices.now row_masks.now)) seeds.old (ran_by nrows hops.now rooms.now region.old frontier.old scratch.old).total) global_nodes.old local_row_ptr.old local_col_idx.old source_ptr.old source_indices.old).columns local_col_idx.old }
-    ensures starts { source_ptr.new ≡ run_left (run_check (matrix_check matrix_nrows matrix_ncols row_ptr.now col_idx.now values.now) (square_topology (topology_check nrows ncols row_word_ptr.now row_word_indices.now row_masks.now structural_nnz column_nrows column_ncols column_word_ptr.now column_word_indices.now column_masks.now column_structural_nnz) nrows ncols matrix_nrows matrix_ncols) (arrays_check nrows len seeds.old (side_holds row_word_ptr.now row_word_indices.now row_masks.now) (stored row_ptr.now col_idx.now) hops.now rooms.now)) (ran_by nrows hops.now rooms.now region.old frontier.old scratch.old) (plan_cut (system_of nrows row_ptr.now col_idx.now values.now row_word_ptr.now row_word_indices.now row_masks.now structural_nnz column_word_ptr.now column_word_indices.now column_masks.now column_structural_nnz len seeds.old) (region_words (plain_network nrows (side_holds row_word_ptr.now row_word_indices.now row_masks.now)) seeds.old (ran_by nrows hops.now rooms.now region.old frontier.old scratch.old).total) global_nodes.old local_row_ptr.old local_col_idx.old source_ptr.old source_indices.old).source_ptr source_ptr.old }
-    ensures sources { source_indices.new ≡ run_left (run_check (matrix_check matrix_nrows matrix_ncols row_ptr.now col_idx.now values.now) (square_topology (topology_check nrows ncols row_word_ptr.now row_word_indices.now row_masks.now structural_nnz column_nrows column_ncols column_word_ptr.now column_word_indices.now column_masks.now column_structural_nnz) nrows ncols matrix_nrows matrix_ncols) (arrays_check nrows len seeds.old (side_holds row_word_ptr.now row_word_indices.now row_masks.now) (stored row_ptr.now col_idx.now) hops.now rooms.now)) (ran_by nrows hops.now rooms.now region.old frontier.old scratch.old) (plan_cut (system_of nrows row_ptr.now col_idx.now values.now row_word_ptr.now row_word_indices.now row_masks.now structural_nnz column_word_ptr.now column_word_indices.now column_masks.now column_structural_nnz len seeds.old) (region_words (plain_network nrows (side_holds row_word_ptr.now row_word_indices.now row_masks.now)) seeds.old (ran_by nrows hops.now rooms.now region.old frontier.old scratch.old).total) global_nodes.old local_row_ptr.old local_col_idx.old source_ptr.old source_indices.old).sources source_indices.old }
-    ensures filled { out.new ≡ run_left (run_check (matrix_check matrix_nrows matrix_ncols row_ptr.now col_idx.now values.now) (square_topology (topology_check nrows ncols row_word_ptr.now row_word_indices.now row_masks.now structural_nnz column_nrows column_ncols column_word_ptr.now column_word_indices.now column_masks.now column_structural_nnz) nrows ncols matrix_nrows matrix_ncols) (arrays_check nrows len seeds.old (side_holds row_word_ptr.now row_word_indices.now row_masks.now) (stored row_ptr.now col_idx.now) hops.now rooms.now)) (ran_by nrows hops.now rooms.now region.old frontier.old scratch.old) (values_cut (system_of nrows row_ptr.now col_idx.now values.now row_word_ptr.now row_word_indices.now row_masks.now structural_nnz column_word_ptr.now column_word_indices.now column_masks.now column_structural_nnz len seeds.old) (region_words (plain_network nrows (side_holds row_word_ptr.now row_word_indices.now row_masks.now)) seeds.old (ran_by nrows hops.now rooms.now region.old frontier.old scratch.old).total) global_nodes.old local_row_ptr.old local_col_idx.old source_ptr.old source_indices.old new_values.now out.old) out.old }
+    ensures value { result ≡ run_answer (lent_run topology.entry matrix.entry len seeds.old hops.now rooms.now) (ran_by topology.entry.rows.nrows hops.now rooms.now region.old frontier.old scratch.old) (cut_answer (lent_system topology.entry matrix.entry len seeds.old) (region_words (plain topology.entry) seeds.old (ran_by topology.entry.rows.nrows hops.now rooms.now region.old frontier.old scratch.old).total) global_nodes.old local_row_ptr.old local_col_idx.old source_ptr.old source_indices.old new_values.now out.old) }
+    ensures renewed { seeds.new ≡ leaves (lent_run topology.entry matrix.entry len seeds.old hops.now rooms.now) (seeds_after (plain topology.entry) (ran_by topology.entry.rows.nrows hops.now rooms.now region.old frontier.old scratch.old) seeds.old) seeds.old }
+    ensures inside { region.new ≡ leaves (lent_run topology.entry matrix.entry len seeds.old hops.now rooms.now) (region_once_grown (plain topology.entry) (ran_by topology.entry.rows.nrows hops.now rooms.now region.old frontier.old scratch.old) seeds.old region.old) region.old }
+    ensures edge { frontier.new ≡ leaves (lent_run topology.entry matrix.entry len seeds.old hops.now rooms.now) (frontier_once_grown (plain topology.entry) (ran_by topology.entry.rows.nrows hops.now rooms.now region.old frontier.old scratch.old) seeds.old frontier.old) frontier.old }
+    ensures spent { scratch.new ≡ leaves (lent_run topology.entry matrix.entry len seeds.old hops.now rooms.now) (scratch_once_grown (plain topology.entry) (ran_by topology.entry.rows.nrows hops.now rooms.now region.old frontier.old scratch.old) scratch.old) scratch.old }
+    ensures members { global_nodes.new ≡ run_left (lent_run topology.entry matrix.entry len seeds.old hops.now rooms.now) (ran_by topology.entry.rows.nrows hops.now rooms.now region.old frontier.old scratch.old) (plan_cut (lent_system topology.entry matrix.entry len seeds.old) (region_words (plain topology.entry) seeds.old (ran_by topology.entry.rows.nrows hops.now rooms.now region.old frontier.old scratch.old).total) global_nodes.old local_row_ptr.old local_col_idx.old source_ptr.old source_indices.old).nodes global_nodes.old }
+    ensures pointers { local_row_ptr.new ≡ run_left (lent_run topology.entry matrix.entry len seeds.old hops.now rooms.now) (ran_by topology.entry.rows.nrows hops.now rooms.now region.old frontier.old scratch.old) (plan_cut (lent_system topology.entry matrix.entry len seeds.old) (region_words (plain topology.entry) seeds.old (ran_by topology.entry.rows.nrows hops.now rooms.now region.old frontier.old scratch.old).total) global_nodes.old local_row_ptr.old local_col_idx.old source_ptr.old source_indices.old).ptr local_row_ptr.old }
+    ensures columns { local_col_idx.new ≡ run_left (lent_run topology.entry matrix.entry len seeds.old hops.now rooms.now) (ran_by topology.entry.rows.nrows hops.now rooms.now region.old frontier.old scratch.old) (plan_cut (lent_system topology.entry matrix.entry len seeds.old) (region_words (plain topology.entry) seeds.old (ran_by topology.entry.rows.nrows hops.now rooms.now region.old frontier.old scratch.old).total) global_nodes.old local_row_ptr.old local_col_idx.old source_ptr.old source_indices.old).columns local_col_idx.old }
+    ensures starts { source_ptr.new ≡ run_left (lent_run topology.entry matrix.entry len seeds.old hops.now rooms.now) (ran_by topology.entry.rows.nrows hops.now rooms.now region.old frontier.old scratch.old) (plan_cut (lent_system topology.entry matrix.entry len seeds.old) (region_words (plain topology.entry) seeds.old (ran_by topology.entry.rows.nrows hops.now rooms.now region.old frontier.old scratch.old).total) global_nodes.old local_row_ptr.old local_col_idx.old source_ptr.old source_indices.old).source_ptr source_ptr.old }
+    ensures sources { source_indices.new ≡ run_left (lent_run topology.entry matrix.entry len seeds.old hops.now rooms.now) (ran_by topology.entry.rows.nrows hops.now rooms.now region.old frontier.old scratch.old) (plan_cut (lent_system topology.entry matrix.entry len seeds.old) (region_words (plain topology.entry) seeds.old (ran_by topology.entry.rows.nrows hops.now rooms.now region.old frontier.old scratch.old).total) global_nodes.old local_row_ptr.old local_col_idx.old source_ptr.old source_indices.old).sources source_indices.old }
+    ensures filled { out.new ≡ run_left (lent_run topology.entry matrix.entry len seeds.old hops.now rooms.now) (ran_by topology.entry.rows.nrows hops.now rooms.now region.old frontier.old scratch.old) (values_cut (lent_system topology.entry matrix.entry len seeds.old) (region_words (plain topology.entry) seeds.old (ran_by topology.entry.rows.nrows hops.now rooms.now region.old frontier.old scratch.old).total) global_nodes.old local_row_ptr.old local_col_idx.old source_ptr.old source_indices.old new_values.now out.old) out.old }
 {
-    check_run(
-        nrows,
-        ncols,
-        row_word_ptr,
-        row_word_indices,
-        row_masks,
-        structural_nnz,
-        column_nrows,
-        column_ncols,
-        column_word_ptr,
-        column_word_indices,
-        column_masks,
-        column_structural_nnz,
-        matrix_nrows,
-        matrix_ncols,
-        row_ptr,
-        col_idx,
-        values,
-        len,
-        seeds,
-        hops,
-        rooms,
-    )?;
+    let first = DofMask { len, words: seeds };
+    check_run(topology, matrix, first, hops, rooms)?;
     let ran = growths::inner::grow_list(
-        nrows,
-        ncols,
-        row_word_ptr,
-        row_word_indices,
-        row_masks,
-        structural_nnz,
-        column_nrows,
-        column_ncols,
-        column_word_ptr,
-        column_word_indices,
-        column_masks,
-        column_structural_nnz,
-        len,
-        seeds,
-        hops,
-        rooms,
-        region,
-        frontier,
-        scratch,
+        topology, len, seeds, hops, rooms, region, frontier, scratch,
     );
+    let grown = DofMask { len, words: seeds };
     Ok(inner::finish(
         ran,
-        nrows,
-        row_ptr,
-        col_idx,
-        values,
-        row_word_ptr,
-        row_word_indices,
-        row_masks,
-        structural_nnz,
-        column_word_ptr,
-        column_word_indices,
-        column_masks,
-        column_structural_nnz,
-        len,
-        seeds,
+        topology,
+        matrix,
+        grown,
         new_values,
         global_nodes,
         local_row_ptr,
@@ -327,29 +149,10 @@ pub fn run_growths(
 }
 
 // The same with field growths under one layout.
-pub fn run_field_growths(
-    nrows: usize,
-    ncols: usize,
-    row_word_ptr: &[u32],
-    row_word_indices: &[u32],
-    row_masks: &[u64],
-    structural_nnz: usize,
-    column_nrows: usize,
-    column_ncols: usize,
-    column_word_ptr: &[u32],
-    column_word_indices: &[u32],
-    column_masks: &[u64],
-    column_structural_nnz: usize,
-    matrix_nrows: usize,
-    matrix_ncols: usize,
-    row_ptr: &[u32],
-    col_idx: &[u32],
-    values: &[f64],
-    entity_kinds: &[u8],
-    entity_ids: &[u64],
-    field_ids: &[u32],
-    components: &[u32],
-    offsets: &[u64],
+pub fn run_field_growths<'a>(
+    topology: AbtmDualTopology<'a>,
+    matrix: Csr32Matrix<'a>,
+    layout: FieldAwareDofLayout<'a>,
     len: usize,
     seeds: &mut [u64],
     hops: &[u64],
@@ -365,88 +168,29 @@ pub fn run_field_growths(
     source_indices: &mut [u32],
     out: &mut [f64],
 ) -> Result<GrowthRun, Refusal>
-    ensures value { result ≡ run_answer (field_run_check (matrix_check matrix_nrows matrix_ncols row_ptr.now col_idx.now values.now) (square_topology (topology_check nrows ncols row_word_ptr.now row_word_indices.now row_masks.now structural_nnz column_nrows column_ncols column_word_ptr.now column_word_indices.now column_masks.now column_structural_nnz) nrows ncols matrix_nrows matrix_ncols) (square_check entity_kinds.now entity_ids.now field_ids.now components.now offsets.now nrows ncols) (arrays_check nrows len seeds.old (side_holds row_word_ptr.now row_word_indices.now row_masks.now) (stored row_ptr.now col_idx.now) hops.now rooms.now)) (ran_by nrows hops.now rooms.now region.old frontier.old scratch.old) (cut_answer (system_of nrows row_ptr.now col_idx.now values.now row_word_ptr.now row_word_indices.now row_masks.now structural_nnz column_word_ptr.now column_word_indices.now column_masks.now column_structural_nnz len seeds.old) (region_words (field_network components.now (side_holds row_word_ptr.now row_word_indices.now row_masks.now)) seeds.old (ran_by nrows hops.now rooms.now region.old frontier.old scratch.old).total) global_nodes.old local_row_ptr.old local_col_idx.old source_ptr.old source_indices.old new_values.now out.old) }
-    ensures renewed { seeds.new ≡ leaves (field_run_check (matrix_check matrix_nrows matrix_ncols row_ptr.now col_idx.now values.now) (square_topology (topology_check nrows ncols row_word_ptr.now row_word_indices.now row_masks.now structural_nnz column_nrows column_ncols column_word_ptr.now column_word_indices.now column_masks.now column_structural_nnz) nrows ncols matrix_nrows matrix_ncols) (square_check entity_kinds.now entity_ids.now field_ids.now components.now offsets.now nrows ncols) (arrays_check nrows len seeds.old (side_holds row_word_ptr.now row_word_indices.now row_masks.now) (stored row_ptr.now col_idx.now) hops.now rooms.now)) (seeds_after (field_network components.now (side_holds row_word_ptr.now row_word_indices.now row_masks.now)) (ran_by nrows hops.now rooms.now region.old frontier.old scratch.old) seeds.old) seeds.old }
-    ensures inside { region.new ≡ leaves (field_run_check (matrix_check matrix_nrows matrix_ncols row_ptr.now col_idx.now values.now) (square_topology (topology_check nrows ncols row_word_ptr.now row_word_indices.now row_masks.now structural_nnz column_nrows column_ncols column_word_ptr.now column_word_indices.now column_masks.now column_structural_nnz) nrows ncols matrix_nrows matrix_ncols) (square_check entity_kinds.now entity_ids.now field_ids.now components.now offsets.now nrows ncols) (arrays_check nrows len seeds.old (side_holds row_word_ptr.now row_word_indices.now row_masks.now) (stored row_ptr.now col_idx.now) hops.now rooms.now)) (region_once_grown (field_network components.now (side_holds row_word_ptr.now row_word_indices.now row_masks.now)) (ran_by nrows hops.now rooms.now region.old frontier.old scratch.old) seeds.old region.old) region.old }
-    ensures edge { frontier.new ≡ leaves (field_run_check (matrix_check matrix_nrows matrix_ncols row_ptr.now col_idx.now values.now) (square_topology (topology_check nrows ncols row_word_ptr.now row_word_indices.now row_masks.now structural_nnz column_nrows column_ncols column_word_ptr.now column_word_indices.now column_masks.now column_structural_nnz) nrows ncols matrix_nrows matrix_ncols) (square_check entity_kinds.now entity_ids.now field_ids.now components.now offsets.now nrows ncols) (arrays_check nrows len seeds.old (side_holds row_word_ptr.now row_word_indices.now row_masks.now) (stored row_ptr.now col_idx.now) hops.now rooms.now)) (frontier_once_grown (field_network components.now (side_holds row_word_ptr.now row_word_indices.now row_masks.now)) (ran_by nrows hops.now rooms.now region.old frontier.old scratch.old) seeds.old frontier.old) frontier.old }
-    ensures spent { scratch.new ≡ leaves (field_run_check (matrix_check matrix_nrows matrix_ncols row_ptr.now col_idx.now values.now) (square_topology (topology_check nrows ncols row_word_ptr.now row_word_indices.now row_masks.now structural_nnz column_nrows column_ncols column_word_ptr.now column_word_indices.now column_masks.now column_structural_nnz) nrows ncols matrix_nrows matrix_ncols) (square_check entity_kinds.now entity_ids.now field_ids.now components.now offsets.now nrows ncols) (arrays_check nrows len seeds.old (side_holds row_word_ptr.now row_word_indices.now row_masks.now) (stored row_ptr.now col_idx.now) hops.now rooms.now)) (scratch_once_grown (field_network components.now (side_holds row_word_ptr.now row_word_indices.now row_masks.now)) (ran_by nrows hops.now rooms.now region.old frontier.old scratch.old) scratch.old) scratch.old }
-    ensures members { global_nodes.new ≡ run_left (field_run_check (matrix_check matrix_nrows matrix_ncols row_ptr.now col_idx.now values.now) (square_topology (topology_check nrows ncols row_word_ptr.now row_word_indices.now row_masks.now structural_nnz column_nrows column_ncols column_word_ptr.now column_word_indices.now column_masks.now column_structural_nnz) nrows ncols matrix_nrows matrix_ncols) (square_check entity_kinds.now entity_ids.now field_ids.now components.now offsets.now nrows ncols) (arrays_check nrows len seeds.old (side_holds row_word_ptr.now row_word_indices.now row_masks.now) (stored row_ptr.now col_idx.now) hops.now rooms.now)) (ran_by nrows hops.now rooms.now region.old frontier.old scratch.old) (plan_cut (system_of nrows row_ptr.now col_idx.now values.now row_word_ptr.now row_word_indices.now row_masks.now structural_nnz column_word_ptr.now column_word_indices.now column_masks.now column_structural_nnz len seeds.old) (region_words (field_network components.now (side_holds row_word_ptr.now row_word_indices.now row_masks.now)) seeds.old (ran_by nrows hops.now rooms.now region.old frontier.old scratch.old).total) global_nodes.old local_row_ptr.old local_col_idx.old source_ptr.old source_indices.old).nodes global_nodes.old }
-    ensures pointers { local_row_ptr.new ≡ run_left (field_run_check (matrix_check matrix_nrows matrix_ncols row_ptr.now col_idx.now values.now) (square_topology (topology_check nrows ncols row_word_ptr.now row_word_indices.now row_masks.now structural_nnz column_nrows column_ncols column_word_ptr.now column_word_indices.now column_masks.now column_structural_nnz) nrows ncols matrix_nrows matrix_ncols) (square_check entity_kinds.now entity_ids.now field_ids.now components.now offsets.now nrows ncols) (arrays_check nrows len seeds.old (side_holds row_word_ptr.now row_word_indices.now row_masks.now) (stored row_ptr.now col_idx.now) hops.now rooms.now)) (ran_by nrows hops.now rooms.now region.old frontier.old scratch.old) (plan_cut (system_of nrows row_ptr.now col_idx.now values.now row_word_ptr.now row_word_indices.now row_masks.now structural_nnz column_word_ptr.now column_word_indices.now column_masks.now column_structural_nnz len seeds.old) (region_words (field_network components.now (side_holds row_word_ptr.now row_word_indices.now row_masks.now)) seeds.old (ran_by nrows hops.now rooms.now region.old frontier.old scratch.old).total) global_nodes.old local_row_ptr.old local_col_idx.old source_ptr.old source_indices.old).ptr local_row_ptr.old }
-    ensures columns { local_col_idx.new ≡ run_left (field_run_check (matrix_check matrix_nrows matrix_ncols row_ptr.now col_idx.now values.now) (square_topology (topology_check nrows ncols row_word_ptr.now row_word_indices.now row_masks.now structural_nnz column_nrows column_ncols column_word_ptr.now column_word_indices.now column_masks.now column_structural_nnz) nrows ncols matrix_nrows matrix_ncols) (square_check entity_kinds.now entity_ids.now field_ids.now components.now offsets.now nrows ncols) (arrays_check nrows len seeds.old (side_holds row_word_ptr.now row_word_indices.now row_masks.now) (stored row_ptr.now col_idx.now) hops.now rooms.now)) (ran_by nrows hops.now rooms.now region.old frontier.old scratch.old) (plan_cut (system_of nrows row_ptr.now col_idx.now values.now row_word_ptr.now row_word_indices.now row_masks.now structural_nnz column_word_ptr.now column_word_indices.now column_masks.now column_structural_nnz len seeds.old) (region_words (field_network components.now (side_holds row_word_ptr.now row_word_indices.now row_masks.now)) seeds.old (ran_by nrows hops.now rooms.now region.old frontier.old scratch.old).total) global_nodes.old local_row_ptr.old local_col_idx.old source_ptr.old source_indices.old).columns local_col_idx.old }
-    ensures starts { source_ptr.new ≡ run_left (field_run_check (matrix_check matrix_nrows matrix_ncols row_ptr.now col_idx.now values.now) (square_topology (topology_check nrows ncols row_word_ptr.now row_word_indices.now row_masks.now structural_nnz column_nrows column_ncols column_word_ptr.now column_word_indices.now column_masks.now column_structural_nnz) nrows ncols matrix_nrows matrix_ncols) (square_check entity_kinds.now entity_ids.now field_ids.now components.now offsets.now nrows ncols) (arrays_check nrows len seeds.old (side_holds row_word_ptr.now row_word_indices.now row_masks.now) (stored row_ptr.now col_idx.now) hops.now rooms.now)) (ran_by nrows hops.now rooms.now region.old frontier.old scratch.old) (plan_cut (system_of nrows row_ptr.now col_idx.now values.now row_word_ptr.now row_word_indices.now row_masks.now structural_nnz column_word_ptr.now column_word_indices.now column_masks.now column_structural_nnz len seeds.old) (region_words (field_network components.now (side_holds row_word_ptr.now row_word_indices.now row_masks.now)) seeds.old (ran_by nrows hops.now rooms.now region.old frontier.old scratch.old).total) global_nodes.old local_row_ptr.old local_col_idx.old source_ptr.old source_indices.old).source_ptr source_ptr.old }
-    ensures sources { source_indices.new ≡ run_left (field_run_check (matrix_check matrix_nrows matrix_ncols row_ptr.now col_idx.now values.now) (square_topology (topology_check nrows ncols row_word_ptr.now row_word_indices.now row_masks.now structural_nnz column_nrows column_ncols column_word_ptr.now column_word_indices.now column_masks.now column_structural_nnz) nrows ncols matrix_nrows matrix_ncols) (square_check entity_kinds.now entity_ids.now field_ids.now components.now offsets.now nrows ncols) (arrays_check nrows len seeds.old (side_holds row_word_ptr.now row_word_indices.now row_masks.now) (stored row_ptr.now col_idx.now) hops.now rooms.now)) (ran_by nrows hops.now rooms.now region.old frontier.old scratch.old) (plan_cut (system_of nrows row_ptr.now col_idx.now values.now row_word_ptr.now row_word_indices.now row_masks.now structural_nnz column_word_ptr.now column_word_indices.now column_masks.now column_structural_nnz len seeds.old) (region_words (field_network components.now (side_holds row_word_ptr.now row_word_indices.now row_masks.now)) seeds.old (ran_by nrows hops.now rooms.now region.old frontier.old scratch.old).total) global_nodes.old local_row_ptr.old local_col_idx.old source_ptr.old source_indices.old).sources source_indices.old }
-    ensures filled { out.new ≡ run_left (field_run_check (matrix_check matrix_nrows matrix_ncols row_ptr.now col_idx.now values.now) (square_topology (topology_check nrows ncols row_word_ptr.now row_word_indices.now row_masks.now structural_nnz column_nrows column_ncols column_word_ptr.now column_word_indices.now column_masks.now column_structural_nnz) nrows ncols matrix_nrows matrix_ncols) (square_check entity_kinds.now entity_ids.now field_ids.now components.now offsets.now nrows ncols) (arrays_check nrows len seeds.old (side_holds row_word_ptr.now row_word_indices.now row_masks.now) (stored row_ptr.now col_idx.now) hops.now rooms.now)) (ran_by nrows hops.now rooms.now region.old frontier.old scratch.old) (values_cut (system_of nrows row_ptr.now col_idx.now values.now row_word_ptr.now row_word_indices.now row_masks.now structural_nnz column_word_ptr.now column_word_indices.now column_masks.now column_structural_nnz len seeds.old) (region_words (field_network components.now (side_holds row_word_ptr.now row_word_indices.now row_masks.now)) seeds.old (ran_by nrows hops.now rooms.now region.old frontier.old scratch.old).total) global_nodes.old local_row_ptr.old local_col_idx.old source_ptr.old source_indices.old new_values.now out.old) out.old }
+    ensures value { result ≡ run_answer (lent_field_run topology.entry matrix.entry layout.entry len seeds.old hops.now rooms.now) (ran_by topology.entry.rows.nrows hops.now rooms.now region.old frontier.old scratch.old) (cut_answer (lent_system topology.entry matrix.entry len seeds.old) (region_words (blocked topology.entry layout.entry) seeds.old (ran_by topology.entry.rows.nrows hops.now rooms.now region.old frontier.old scratch.old).total) global_nodes.old local_row_ptr.old local_col_idx.old source_ptr.old source_indices.old new_values.now out.old) }
+    ensures renewed { seeds.new ≡ leaves (lent_field_run topology.entry matrix.entry layout.entry len seeds.old hops.now rooms.now) (seeds_after (blocked topology.entry layout.entry) (ran_by topology.entry.rows.nrows hops.now rooms.now region.old frontier.old scratch.old) seeds.old) seeds.old }
+    ensures inside { region.new ≡ leaves (lent_field_run topology.entry matrix.entry layout.entry len seeds.old hops.now rooms.now) (region_once_grown (blocked topology.entry layout.entry) (ran_by topology.entry.rows.nrows hops.now rooms.now region.old frontier.old scratch.old) seeds.old region.old) region.old }
+    ensures edge { frontier.new ≡ leaves (lent_field_run topology.entry matrix.entry layout.entry len seeds.old hops.now rooms.now) (frontier_once_grown (blocked topology.entry layout.entry) (ran_by topology.entry.rows.nrows hops.now rooms.now region.old frontier.old scratch.old) seeds.old frontier.old) frontier.old }
+    ensures spent { scratch.new ≡ leaves (lent_field_run topology.entry matrix.entry layout.entry len seeds.old hops.now rooms.now) (scratch_once_grown (blocked topology.entry layout.entry) (ran_by topology.entry.rows.nrows hops.now rooms.now region.old frontier.old scratch.old) scratch.old) scratch.old }
+    ensures members { global_nodes.new ≡ run_left (lent_field_run topology.entry matrix.entry layout.entry len seeds.old hops.now rooms.now) (ran_by topology.entry.rows.nrows hops.now rooms.now region.old frontier.old scratch.old) (plan_cut (lent_system topology.entry matrix.entry len seeds.old) (region_words (blocked topology.entry layout.entry) seeds.old (ran_by topology.entry.rows.nrows hops.now rooms.now region.old frontier.old scratch.old).total) global_nodes.old local_row_ptr.old local_col_idx.old source_ptr.old source_indices.old).nodes global_nodes.old }
+    ensures pointers { local_row_ptr.new ≡ run_left (lent_field_run topology.entry matrix.entry layout.entry len seeds.old hops.now rooms.now) (ran_by topology.entry.rows.nrows hops.now rooms.now region.old frontier.old scratch.old) (plan_cut (lent_system topology.entry matrix.entry len seeds.old) (region_words (blocked topology.entry layout.entry) seeds.old (ran_by topology.entry.rows.nrows hops.now rooms.now region.old frontier.old scratch.old).total) global_nodes.old local_row_ptr.old local_col_idx.old source_ptr.old source_indices.old).ptr local_row_ptr.old }
+    ensures columns { local_col_idx.new ≡ run_left (lent_field_run topology.entry matrix.entry layout.entry len seeds.old hops.now rooms.now) (ran_by topology.entry.rows.nrows hops.now rooms.now region.old frontier.old scratch.old) (plan_cut (lent_system topology.entry matrix.entry len seeds.old) (region_words (blocked topology.entry layout.entry) seeds.old (ran_by topology.entry.rows.nrows hops.now rooms.now region.old frontier.old scratch.old).total) global_nodes.old local_row_ptr.old local_col_idx.old source_ptr.old source_indices.old).columns local_col_idx.old }
+    ensures starts { source_ptr.new ≡ run_left (lent_field_run topology.entry matrix.entry layout.entry len seeds.old hops.now rooms.now) (ran_by topology.entry.rows.nrows hops.now rooms.now region.old frontier.old scratch.old) (plan_cut (lent_system topology.entry matrix.entry len seeds.old) (region_words (blocked topology.entry layout.entry) seeds.old (ran_by topology.entry.rows.nrows hops.now rooms.now region.old frontier.old scratch.old).total) global_nodes.old local_row_ptr.old local_col_idx.old source_ptr.old source_indices.old).source_ptr source_ptr.old }
+    ensures sources { source_indices.new ≡ run_left (lent_field_run topology.entry matrix.entry layout.entry len seeds.old hops.now rooms.now) (ran_by topology.entry.rows.nrows hops.now rooms.now region.old frontier.old scratch.old) (plan_cut (lent_system topology.entry matrix.entry len seeds.old) (region_words (blocked topology.entry layout.entry) seeds.old (ran_by topology.entry.rows.nrows hops.now rooms.now region.old frontier.old scratch.old).total) global_nodes.old local_row_ptr.old local_col_idx.old source_ptr.old source_indices.old).sources source_indices.old }
+    ensures filled { out.new ≡ run_left (lent_field_run topology.entry matrix.entry layout.entry len seeds.old hops.now rooms.now) (ran_by topology.entry.rows.nrows hops.now rooms.now region.old frontier.old scratch.old) (values_cut (lent_system topology.entry matrix.entry len seeds.old) (region_words (blocked topology.entry layout.entry) seeds.old (ran_by topology.entry.rows.nrows hops.now rooms.now region.old frontier.old scratch.old).total) global_nodes.old local_row_ptr.old local_col_idx.old source_ptr.old source_indices.old new_values.now out.old) out.old }
 {
-    check_field_run(
-        nrows,
-        ncols,
-        row_word_ptr,
-        row_word_indices,
-        row_masks,
-        structural_nnz,
-        column_nrows,
-        column_ncols,
-        column_word_ptr,
-        column_word_indices,
-        column_masks,
-        column_structural_nnz,
-        matrix_nrows,
-        matrix_ncols,
-        row_ptr,
-        col_idx,
-        values,
-        entity_kinds,
-        entity_ids,
-        field_ids,
-        components,
-        offsets,
-        len,
-        seeds,
-        hops,
-        rooms,
-    )?;
+    let first = DofMask { len, words: seeds };
+    check_field_run(topology, matrix, layout, first, hops, rooms)?;
     let ran = growths::inner::grow_field_list(
-        nrows,
-        ncols,
-        row_word_ptr,
-        row_word_indices,
-        row_masks,
-        structural_nnz,
-        column_nrows,
-        column_ncols,
-        column_word_ptr,
-        column_word_indices,
-        column_masks,
-        column_structural_nnz,
-        entity_kinds,
-        entity_ids,
-        field_ids,
-        components,
-        offsets,
-        len,
-        seeds,
-        hops,
-        rooms,
-        region,
-        frontier,
-        scratch,
+        topology, layout, len, seeds, hops, rooms, region, frontier, scratch,
     );
+    let grown = DofMask { len, words: seeds };
     Ok(inner::finish(
         ran,
-        nrows,
-        row_ptr,
-        col_idx,
-        values,
-        row_word_ptr,
-        row_word_indices,
-        row_masks,
-        structural_nnz,
-        column_word_ptr,
-        column_word_indices,
-        column_masks,
-        column_structural_nnz,
-        len,
-        seeds,
+        topology,
+        matrix,
+        grown,
         new_values,
         global_nodes,
         local_row_ptr,

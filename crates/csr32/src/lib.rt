@@ -7,6 +7,18 @@ ghost use Rattle.csr32.specs.Matrix.{finite, matrix_check};
 
 use base::Refusal;
 
+pub mod inner;
+
+// A matrix as a caller lends it.
+#[derive(Clone, Copy)]
+pub struct Csr32Matrix<'a> {
+    pub nrows: usize,
+    pub ncols: usize,
+    pub row_ptr: &'a [u32],
+    pub col_idx: &'a [u32],
+    pub values: &'a [f64],
+}
+
 // Neither infinite nor a NaN: only a finite number less itself is zero.
 pub fn is_finite(x: f64) -> bool
     ensures { result ≡ finite x }
@@ -27,48 +39,44 @@ pub fn all_finite(s: &[f64]) -> bool
     all
 }
 
-#[tactic(auto, using(base::proofs::Checks::checks), unfolding(crate::specs::Matrix::matrix_check))]
-pub fn validate(
-    nrows: usize,
-    ncols: usize,
-    row_ptr: &[u32],
-    col_idx: &[u32],
-    values: &[f64],
-) -> Result<(), Refusal>
-    ensures { result ≡ matrix_check nrows ncols row_ptr.now col_idx.now values.now }
-{
-    if nrows > base::SIDE_LIMIT {
-        return Err(Refusal::OverLimit);
+impl Csr32Matrix<'_> {
+    #[tactic(auto, using(base::proofs::Checks::checks), unfolding(crate::specs::Matrix::matrix_check))]
+    pub fn validate(self) -> Result<(), Refusal>
+        ensures { result ≡ matrix_check self.entry.nrows self.entry.ncols self.entry.row_ptr.now self.entry.col_idx.now self.entry.values.now }
+    {
+        if self.nrows > base::SIDE_LIMIT {
+            return Err(Refusal::OverLimit);
+        }
+        if self.ncols > base::SIDE_LIMIT {
+            return Err(Refusal::OverLimit);
+        }
+        if self.col_idx.len() > base::ENTRY_LIMIT {
+            return Err(Refusal::OverLimit);
+        }
+        if self.values.len() > base::ENTRY_LIMIT {
+            return Err(Refusal::OverLimit);
+        }
+        if self.row_ptr.len() != self.nrows + 1 {
+            return Err(Refusal::RowPtrLength);
+        }
+        if self.col_idx.len() != self.values.len() {
+            return Err(Refusal::EntryLengths);
+        }
+        if self.row_ptr[0] != 0 {
+            return Err(Refusal::RowPtrStart);
+        }
+        if self.row_ptr[self.nrows] as usize != self.values.len() {
+            return Err(Refusal::RowPtrEnd);
+        }
+        if !base::scan::never_falls(self.row_ptr) {
+            return Err(Refusal::RowPtrFalls);
+        }
+        if !base::scan::all_below(self.col_idx, self.ncols) {
+            return Err(Refusal::ColumnOutside);
+        }
+        if !all_finite(self.values) {
+            return Err(Refusal::NotFinite);
+        }
+        Ok(())
     }
-    if ncols > base::SIDE_LIMIT {
-        return Err(Refusal::OverLimit);
-    }
-    if col_idx.len() > base::ENTRY_LIMIT {
-        return Err(Refusal::OverLimit);
-    }
-    if values.len() > base::ENTRY_LIMIT {
-        return Err(Refusal::OverLimit);
-    }
-    if row_ptr.len() != nrows + 1 {
-        return Err(Refusal::RowPtrLength);
-    }
-    if col_idx.len() != values.len() {
-        return Err(Refusal::EntryLengths);
-    }
-    if row_ptr[0] != 0 {
-        return Err(Refusal::RowPtrStart);
-    }
-    if row_ptr[nrows] as usize != values.len() {
-        return Err(Refusal::RowPtrEnd);
-    }
-    if !base::scan::never_falls(row_ptr) {
-        return Err(Refusal::RowPtrFalls);
-    }
-    if !base::scan::all_below(col_idx, ncols) {
-        return Err(Refusal::ColumnOutside);
-    }
-    if !all_finite(values) {
-        return Err(Refusal::NotFinite);
-    }
-    Ok(())
 }

@@ -1,8 +1,7 @@
 -- What the steps of a prepared region hand on to one another; no caller of the API needs it.
-use Rattle.std.specs.Prelude.{◌≡◌, Bool, List, ℕ, ◌≤◌, ◌<◌, length, get_or}
-use Rattle.csr32.specs.Matrix.{stored, IsMatrix}
-use Rattle.mask.specs.Mask.{words_needed, IsMask}
-use Rattle.dof_layout.specs.Layout.{total_of, offsets_of}
+use Rattle.std.specs.Prelude.{Bool, List, ℕ, ◌≤◌, ◌<◌, length}
+use Rattle.csr32.specs.Matrix.{stored}
+use Rattle.mask.specs.Mask.{words_needed}
 use Rattle.pattern.specs.Pattern.{stats_of_pattern}
 use Rattle.numeric_plan.specs.Plan.{plan_stats}
 use Rattle.field_region.specs.Growth.{field_stats}
@@ -23,14 +22,6 @@ pub record MasksFit (n : ℕ) (region frontier scratch : List ℕ) : Type 0 wher
   pub inside : words_needed n ≤ length region
   pub edge : words_needed n ≤ length frontier
   pub spent : words_needed n ≤ length scratch
-
--- accepted inputs: a square matrix, a layout whose total is its side, a mask of its nodes
-pub record Inputs (n : ℕ) (ptr cols components offsets seeds : List ℕ) : Type 0 where
-  pub matrix : IsMatrix n n ptr cols
-  pub side : n ≡ total_of components
-  pub running : offsets ≡ offsets_of components
-  pub filled : (b : ℕ) → b < length components → 0 < get_or components b 0
-  pub mask : IsMask n seeds
 
 -- the statistics of pattern and plan in a region p
 abbrev pub local_stats : ℕ → (ℕ → Bool) → List ℕ → List ℕ → LocalStats

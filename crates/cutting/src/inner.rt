@@ -3,21 +3,43 @@ ghost use Rattle.std.specs.Prelude.{◌≡◌, ◌+◌, ◌≤◌, length, repli
 ghost use Rattle.base.specs.Checks.{side_limit};
 ghost use Rattle.base.specs.Lists.{over, over_with_zeros, zeroed};
 ghost use Rattle.base.specs.Sets.{members_below};
-ghost use Rattle.csr32.specs.Matrix.{stored, IsMatrix};
+ghost use Rattle.csr32.specs.Matrix.{IsMatrix};
+ghost use Rattle.csr32.specs.Views.{entries};
 ghost use Rattle.mask.specs.Mask.{in_mask, words_needed, IsMask};
 ghost use Rattle.dof_layout.specs.Layout.{total_of};
 ghost use Rattle.side.specs.Side.{side_holds};
-ghost use Rattle.side.specs.Check.{IsSide};
+ghost use Rattle.side.specs.Views.{pairs};
 ghost use Rattle.dual_topology.specs.Check.{IsTopology};
 ghost use Rattle.graph.specs.Network.{region_words, frontier_words};
 ghost use Rattle.pattern.specs.Pattern.{pattern_ptr, pattern_columns};
 ghost use Rattle.gather.specs.Plan.{plan_sources, plan_ptr};
-ghost use Rattle.cutting.specs.Cut.{network_of, region_of, lists_of};
-ghost use Rattle.cutting.specs.Steps.{LocalFits, MasksFit, Inputs, local_stats, cut_stats};
+ghost use Rattle.cutting.specs.Cut.{lists_of};
+ghost use Rattle.cutting.specs.Steps.{LocalFits, MasksFit, local_stats, cut_stats};
+ghost use Rattle.cutting.specs.Views.{network, grown, lists};
 
 use crate::{LocalStats, RegionCut};
 use binding::Counts;
+use binding::inner::System;
+use csr32::inner::Matrix;
+use dof_layout::inner::Layout;
+use dual_topology::inner::Topology;
+use field_region::inner::FieldGraph;
+use growth::inner::Graph;
+use mask::inner::Mask;
+use numeric_plan::inner::Bound;
+use pattern::inner::Local;
+use side::inner::Side;
 
+// `PreparedFieldAwareTopology` of the Rust: a matrix, and the graph of exactly its pairs under a layout of its nodes.
+#[derive(Clone, Copy)]
+struct Prepared<'a> {
+    fields: FieldGraph<'a>,
+    matrix: Matrix<'a>,
+    ghost square: { IsMatrix fields.graph.n fields.graph.n matrix.row_ptr.now matrix.col_idx.now },
+    ghost own: { pairs fields.graph.topology.rows ≡ entries matrix },
+}
+
+// The lists that are written are parameters of their own, here and below: what is said of each is said of what it held before.
 // The five lists are zeroed past what a plan of so many members, pairs and sources writes.
 fn zero_past(
     n: usize,
@@ -44,84 +66,85 @@ fn zero_past(
     source_indices[counts.sources..entries].fill(0);
 }
 
-// The pattern and the plan of a region in the topology of exactly the matrix's pairs: each list zero past its own part up to its needed length.
-fn plan(
-    n: usize,
-    row_word_ptr: &[u32],
-    word_indices: &[u32],
-    masks: &[u64],
-    region: &[u64],
-    row_ptr: &[u32],
-    col_idx: &[u32],
-    global_nodes: &mut [u32],
-    local_row_ptr: &mut [u32],
-    local_col_idx: &mut [u32],
-    source_ptr: &mut [u32],
-    source_indices: &mut [u32],
-) -> LocalStats
-    requires inputs { IsSide n n row_word_ptr.now word_indices.now masks.now × IsMatrix n n row_ptr.now col_idx.now × IsMask n region.now × (side_holds row_word_ptr.now word_indices.now masks.now ≡ stored row_ptr.now col_idx.now) }
-    requires fits { LocalFits n (length col_idx.now) global_nodes.old local_row_ptr.old local_col_idx.old source_ptr.old source_indices.old }
-    ensures value { result ≡ local_stats n (in_mask region.now) row_ptr.now col_idx.now }
-    ensures members { global_nodes.new ≡ over_with_zeros (members_below n (in_mask region.now)) n global_nodes.old }
-    ensures pointers { local_row_ptr.new ≡ over_with_zeros (pattern_ptr n (in_mask region.now) (stored row_ptr.now col_idx.now)) (n + 1) local_row_ptr.old }
-    ensures columns { local_col_idx.new ≡ over_with_zeros (pattern_columns n (in_mask region.now) (stored row_ptr.now col_idx.now)) (length col_idx.now) local_col_idx.old }
-    ensures source_pointers { source_ptr.new ≡ over_with_zeros (plan_ptr (lists_of n (in_mask region.now) row_ptr.now col_idx.now)) ((length col_idx.now) + 1) source_ptr.old }
-    ensures sources { source_indices.new ≡ over_with_zeros (plan_sources (lists_of n (in_mask region.now) row_ptr.now col_idx.now)) (length col_idx.now) source_indices.old }
-{
-    let kept = pattern::inner::count(n, row_word_ptr, word_indices, masks, region);
-    let sources = binding::inner::count_sources(n, region, row_ptr, col_idx);
-    let counts = Counts {
-        members: kept.members,
-        pairs: kept.kept,
-        sources,
-    };
-    numeric_plan::inner::write(
-        n,
-        row_word_ptr,
-        word_indices,
-        masks,
-        region,
-        region,
-        row_ptr,
-        col_idx,
-        sources,
-        global_nodes,
-        local_row_ptr,
-        local_col_idx,
-        source_ptr,
-        source_indices,
-    );
-    zero_past(
-        n,
-        col_idx.len(),
-        counts,
-        global_nodes,
-        local_row_ptr,
-        local_col_idx,
-        source_ptr,
-        source_indices,
-    );
-    LocalStats {
-        pattern: pattern::inner::stats(n, kept),
-        numeric_plan: numeric_plan::inner::stats(counts),
+impl<'a> Prepared<'a> {
+    // The pattern and the plan of a region: each list zero past its own part up to its needed length. The region is the
+    // front of a list that the caller writes.
+    fn plan(
+        self,
+        region: &'a [u64],
+        global_nodes: &mut [u32],
+        local_row_ptr: &mut [u32],
+        local_col_idx: &mut [u32],
+        source_ptr: &mut [u32],
+        source_indices: &mut [u32],
+    ) -> LocalStats
+        requires mask { IsMask self.fields.graph.n region.now }
+        requires fits { LocalFits self.fields.graph.n (length self.matrix.col_idx.now) global_nodes.old local_row_ptr.old local_col_idx.old source_ptr.old source_indices.old }
+        ensures value { result ≡ local_stats self.entry.fields.graph.n (in_mask region.now) self.entry.matrix.row_ptr.now self.entry.matrix.col_idx.now }
+        ensures members { global_nodes.new ≡ over_with_zeros (members_below self.entry.fields.graph.n (in_mask region.now)) self.entry.fields.graph.n global_nodes.old }
+        ensures pointers { local_row_ptr.new ≡ over_with_zeros (pattern_ptr self.entry.fields.graph.n (in_mask region.now) (entries self.entry.matrix)) (self.entry.fields.graph.n + 1) local_row_ptr.old }
+        ensures columns { local_col_idx.new ≡ over_with_zeros (pattern_columns self.entry.fields.graph.n (in_mask region.now) (entries self.entry.matrix)) (length self.entry.matrix.col_idx.now) local_col_idx.old }
+        ensures source_pointers { source_ptr.new ≡ over_with_zeros (plan_ptr (lists_of self.entry.fields.graph.n (in_mask region.now) self.entry.matrix.row_ptr.now self.entry.matrix.col_idx.now)) ((length self.entry.matrix.col_idx.now) + 1) source_ptr.old }
+        ensures sources { source_indices.new ≡ over_with_zeros (plan_sources (lists_of self.entry.fields.graph.n (in_mask region.now) self.entry.matrix.row_ptr.now self.entry.matrix.col_idx.now)) (length self.entry.matrix.col_idx.now) source_indices.old }
+    {
+        let n = self.fields.graph.n;
+        let rows = self.fields.graph.topology.rows;
+        let mask = Mask {
+            len: n,
+            words: region,
+        };
+        let local = Local { rows, region: mask };
+        let matrix = self.matrix;
+        let system = System { local, matrix };
+        let kept = local.count();
+        let sources = system.count_sources();
+        let counts = Counts {
+            members: kept.members,
+            pairs: kept.kept,
+            sources,
+        };
+        let bound = Bound {
+            system,
+            paired: mask,
+            terms: sources,
+        };
+        bound.write(
+            global_nodes,
+            local_row_ptr,
+            local_col_idx,
+            source_ptr,
+            source_indices,
+        );
+        zero_past(
+            n,
+            matrix.col_idx.len(),
+            counts,
+            global_nodes,
+            local_row_ptr,
+            local_col_idx,
+            source_ptr,
+            source_indices,
+        );
+        LocalStats {
+            pattern: pattern::inner::stats(n, kept),
+            numeric_plan: numeric_plan::inner::stats(counts),
+        }
     }
 }
 
-// The region grown in the topology of exactly the matrix's pairs, then its pattern and its plan.
-pub fn cut(
-    n: usize,
-    row_word_ptr: &[u32],
-    row_word_indices: &[u32],
-    row_masks: &[u64],
-    column_word_ptr: &[u32],
-    column_word_indices: &[u32],
-    column_masks: &[u64],
-    components: &[u32],
-    offsets: &[u64],
-    seeds: &[u64],
+// The region grown from the seeds, then its pattern and its plan. The topology's lists, of exactly the matrix's pairs, are parts of lists that the
+// caller writes: as a struct the borrow checker does not take them.
+pub fn cut<'a>(
+    matrix: Matrix<'a>,
+    layout: Layout<'a>,
+    row_word_ptr: &'a [u32],
+    row_word_indices: &'a [u32],
+    row_masks: &'a [u64],
+    column_word_ptr: &'a [u32],
+    column_word_indices: &'a [u32],
+    column_masks: &'a [u64],
+    seeds: Mask,
     hops: u64,
-    row_ptr: &[u32],
-    col_idx: &[u32],
     region: &mut [u64],
     frontier: &mut [u64],
     scratch: &mut [u64],
@@ -131,44 +154,47 @@ pub fn cut(
     source_ptr: &mut [u32],
     source_indices: &mut [u32],
 ) -> RegionCut
-    requires inputs { Inputs n row_ptr.now col_idx.now components.now offsets.now seeds.now }
-    requires topology { IsTopology n n row_word_ptr.now row_word_indices.now row_masks.now column_word_ptr.now column_word_indices.now column_masks.now × (side_holds row_word_ptr.now row_word_indices.now row_masks.now ≡ stored row_ptr.now col_idx.now) }
-    requires room { MasksFit n region.old frontier.old scratch.old × LocalFits n (length col_idx.now) global_nodes.old local_row_ptr.old local_col_idx.old source_ptr.old source_indices.old }
-    ensures value { result ≡ cut_stats n row_ptr.now col_idx.now components.now seeds.now hops }
-    ensures inside { region.new ≡ over (region_words (network_of row_ptr.now col_idx.now components.now) seeds.now hops) region.old }
-    ensures edge { frontier.new ≡ over (frontier_words (network_of row_ptr.now col_idx.now components.now) seeds.now hops) frontier.old }
-    ensures spent { scratch.new ≡ over (replicate (words_needed (total_of components.now)) 0) scratch.old }
-    ensures members { global_nodes.new ≡ over_with_zeros (members_below n (region_of row_ptr.now col_idx.now components.now seeds.now hops)) n global_nodes.old }
-    ensures pointers { local_row_ptr.new ≡ over_with_zeros (pattern_ptr n (region_of row_ptr.now col_idx.now components.now seeds.now hops) (stored row_ptr.now col_idx.now)) (n + 1) local_row_ptr.old }
-    ensures columns { local_col_idx.new ≡ over_with_zeros (pattern_columns n (region_of row_ptr.now col_idx.now components.now seeds.now hops) (stored row_ptr.now col_idx.now)) (length col_idx.now) local_col_idx.old }
-    ensures source_pointers { source_ptr.new ≡ over_with_zeros (plan_ptr (lists_of n (region_of row_ptr.now col_idx.now components.now seeds.now hops) row_ptr.now col_idx.now)) ((length col_idx.now) + 1) source_ptr.old }
-    ensures sources { source_indices.new ≡ over_with_zeros (plan_sources (lists_of n (region_of row_ptr.now col_idx.now components.now seeds.now hops) row_ptr.now col_idx.now)) (length col_idx.now) source_indices.old }
+    requires topology { IsTopology matrix.nrows matrix.nrows row_word_ptr.now row_word_indices.now row_masks.now column_word_ptr.now column_word_indices.now column_masks.now × (side_holds row_word_ptr.now row_word_indices.now row_masks.now ≡ entries matrix) }
+    requires sizes { (matrix.ncols ≡ matrix.nrows) × (matrix.nrows ≡ total_of layout.components.now) × (seeds.len ≡ matrix.nrows) }
+    requires room { MasksFit matrix.nrows region.old frontier.old scratch.old × LocalFits matrix.nrows (length matrix.col_idx.now) global_nodes.old local_row_ptr.old local_col_idx.old source_ptr.old source_indices.old }
+    ensures value { result ≡ cut_stats matrix.entry.nrows matrix.entry.row_ptr.now matrix.entry.col_idx.now layout.entry.components.now seeds.entry.words.now hops }
+    ensures inside { region.new ≡ over (region_words (network matrix.entry layout.entry) seeds.entry.words.now hops) region.old }
+    ensures edge { frontier.new ≡ over (frontier_words (network matrix.entry layout.entry) seeds.entry.words.now hops) frontier.old }
+    ensures spent { scratch.new ≡ over (replicate (words_needed (total_of layout.entry.components.now)) 0) scratch.old }
+    ensures members { global_nodes.new ≡ over_with_zeros (members_below matrix.entry.nrows (grown matrix.entry layout.entry seeds.entry hops)) matrix.entry.nrows global_nodes.old }
+    ensures pointers { local_row_ptr.new ≡ over_with_zeros (pattern_ptr matrix.entry.nrows (grown matrix.entry layout.entry seeds.entry hops) (entries matrix.entry)) (matrix.entry.nrows + 1) local_row_ptr.old }
+    ensures columns { local_col_idx.new ≡ over_with_zeros (pattern_columns matrix.entry.nrows (grown matrix.entry layout.entry seeds.entry hops) (entries matrix.entry)) (length matrix.entry.col_idx.now) local_col_idx.old }
+    ensures source_pointers { source_ptr.new ≡ over_with_zeros (plan_ptr (lists matrix.entry layout.entry seeds.entry hops)) ((length matrix.entry.col_idx.now) + 1) source_ptr.old }
+    ensures sources { source_indices.new ≡ over_with_zeros (plan_sources (lists matrix.entry layout.entry seeds.entry hops)) (length matrix.entry.col_idx.now) source_indices.old }
 {
-    let growth = field_region::inner::grow(
+    let n = matrix.nrows;
+    let graph = Graph {
         n,
-        row_word_ptr,
-        row_word_indices,
-        row_masks,
-        column_word_ptr,
-        column_word_indices,
-        column_masks,
-        components,
-        offsets,
-        seeds,
-        hops,
-        region,
-        frontier,
-        scratch,
-    );
+        topology: Topology {
+            rows: Side {
+                nrows: n,
+                ncols: n,
+                row_word_ptr,
+                word_indices: row_word_indices,
+                masks: row_masks,
+            },
+            columns: Side {
+                nrows: n,
+                ncols: n,
+                row_word_ptr: column_word_ptr,
+                word_indices: column_word_indices,
+                masks: column_masks,
+            },
+        },
+    };
+    let prepared = Prepared {
+        fields: FieldGraph { graph, layout },
+        matrix,
+    };
+    let growth = prepared.fields.grow(seeds, hops, region, frontier, scratch);
     let need = mask::inner::words_for(n);
-    let local = plan(
-        n,
-        row_word_ptr,
-        row_word_indices,
-        row_masks,
+    let local = prepared.plan(
         &region[..need],
-        row_ptr,
-        col_idx,
         global_nodes,
         local_row_ptr,
         local_col_idx,

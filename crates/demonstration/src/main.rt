@@ -1,9 +1,13 @@
 // Prints document 01's own examples of words, matrices, masks, layouts, topologies and regions, as the port answers them, and one list of growths.
+// What a call writes is lent to it in arrays: memory is fixed, as a rule of the project.
 #![tactic(auto)]
 
 use base::Refusal;
 use claims::GrowthRun;
+use csr32::Csr32Matrix;
+use dual_topology::AbtmDualTopology;
 use hybit_matrix::Answer;
+use side::AbtmTopology;
 use std::io;
 
 fn show(rt: &impl Print, what: &str, a: Answer) -> io::Result<()> {
@@ -58,6 +62,7 @@ fn words(rt: &impl Print) -> io::Result<()> {
     )
 }
 
+// A matrix by its lists, as the C interface takes it.
 fn matrix(
     rt: &impl Print,
     what: &str,
@@ -225,13 +230,6 @@ fn members(rt: &impl Print, what: &str, words: &[u64]) -> io::Result<()> {
     println!(rt; "")
 }
 
-fn digit(yes: bool) -> u64 {
-    if yes {
-        return 1;
-    }
-    0
-}
-
 fn figure(rt: &impl Print, what: &str, value: u64) -> io::Result<()> {
     println!(rt; "{what}: {value}")
 }
@@ -334,24 +332,34 @@ fn runs(rt: &impl Print) -> io::Result<()> {
     let mut starts = [0u32; 3];
     let mut sources = [0u32; 2];
     let mut values = [0.0f64; 2];
+    let topology = AbtmDualTopology {
+        rows: AbtmTopology {
+            nrows: 3,
+            ncols: 3,
+            row_word_ptr: &[0, 1, 2, 2],
+            word_indices: &[0, 0],
+            masks: &[2, 4],
+            structural_nnz: 2,
+        },
+        columns: AbtmTopology {
+            nrows: 3,
+            ncols: 3,
+            row_word_ptr: &[0, 0, 1, 2],
+            word_indices: &[0, 0],
+            masks: &[1, 2],
+            structural_nnz: 2,
+        },
+    };
+    let matrix = Csr32Matrix {
+        nrows: 3,
+        ncols: 3,
+        row_ptr: &[0, 1, 2, 2],
+        col_idx: &[1, 2],
+        values: &[1.0, 1.0],
+    };
     let answer = claims::run_growths(
-        3,
-        3,
-        &[0, 1, 2, 2],
-        &[0, 0],
-        &[2, 4],
-        2,
-        3,
-        3,
-        &[0, 0, 1, 2],
-        &[0, 0],
-        &[1, 2],
-        2,
-        3,
-        3,
-        &[0, 1, 2, 2],
-        &[1, 2],
-        &[1.0, 1.0],
+        topology,
+        matrix,
         3,
         &mut seeds,
         &[1, 5, 1],
@@ -389,7 +397,7 @@ fn runs(rt: &impl Print) -> io::Result<()> {
         figure(
             rt,
             "0.5 and 0.25, bit for bit",
-            digit(values[0] == 0.5 && values[1] == 0.25),
+            u64::from(values[0] == 0.5 && values[1] == 0.25),
         )?;
     }
     Ok(())

@@ -1,28 +1,15 @@
 -- The kinds and their numbers. Assumes nothing.
-use mathlib.Core.Path.{◌≡◌, refl, sym, ap, ap₂, ◌∙◌}
-use mathlib.Core.Bool.{Bool, true, false, ◌&&◌, ◌||◌}
+use mathlib.Core.Path.{◌≡◌, refl, sym, ap, ◌∙◌}
+use mathlib.Core.Bool.{true, false}
 use mathlib.Core.Logic.{◌⊎◌, inl, inr}
-use Prim.Native.Nat.{ℕ, zero, suc, ◌≤◌, ◌<◌}
+use Prim.Native.Nat.{ℕ, zero, suc}
 use native.Mathlib.Omega.{arith}
-use borrow.Author.Tests.{ne_eqb, le-leb, lt-leb, le-ltb, eqb-true, ltb-true}
+use borrow.Author.Tests.{eqb-true, ltb-true}
 use lib.Dec.{T, leb, ltb, eqb}
-use Rattle.base.proofs.Bools.{and_right, or-e, T_true, T_of, lt-or-le}
+use Rattle.base.proofs.Bools.{and_right, or-e, T_true, T_of}
 use Rattle.base.specs.Sets.{between}
 use Rattle.dof_layout.specs.Layout.{is_kind_code}
 use Rattle.dof_layout.specs.Answers.{code_of, kind_named}
-
--- what is neither 1 to 6 nor 255 is no kind
-pub no_kind : (k : ℕ) → between 1 7 k ≡ false → (k ≡ 255 → ⊥) → is_kind_code k ≡ false
-unfolding is_kind_code
-no_kind k e n = ap₂ ◌||◌ e (ne_eqb k 255 n)
-
-pub outside : (k : ℕ) → (k ≡ 1 → ⊥) → (k ≡ 2 → ⊥) → (k ≡ 3 → ⊥) → (k ≡ 4 → ⊥) → (k ≡ 5 → ⊥) → (k ≡ 6 → ⊥) → between 1 7 k ≡ false
-outside k a b c d e f = go (lt-or-le k 1) (lt-or-le k 7)
-  where
-    go : (k < 1) ⊎ (1 ≤ k) → (k < 7) ⊎ (7 ≤ k) → between 1 7 k ≡ false
-    go (inl l) r = ap (λ (t : Bool). t && ltb k 7) (lt-leb 1 k l)
-    go (inr l) (inr r) = ap₂ ◌&&◌ (le-leb 1 k l) (le-ltb k 7 r)
-    go (inr l) (inl r) = absurd (omega arith)
 
 -- the number of the kind of a number is that number
 pub code-named : (k : ℕ) → is_kind_code k ≡ true → code_of (kind_named k) ≡ k

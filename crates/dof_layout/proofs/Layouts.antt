@@ -189,3 +189,12 @@ pub built-accepted : (kinds ids fields components : List ℕ) → blocks_check k
     → layout_check kinds ids fields components (offsets_of components) ≡ Ok tt
 unfolding layout_check
 built-accepted kinds ids fields components e = sym (group-pass _ _ _ e (last-pass _ _ _ (same-list (offsets_of components) (offsets_of components) refl) refl))
+
+-- no block of accepted blocks is empty
+pub filled-of : (kinds ids fields components : List ℕ) → AreBlocks kinds ids fields components → (b : ℕ) → b < length components → 0 < get_or components b 0
+filled-of kinds ids fields components m b h = m.filled b (omega (arith, m.components_length))
+
+pub ruleset views = (filled-of)
+
+-- the last offset
+pub ruleset last = (total-is, offsets-count)

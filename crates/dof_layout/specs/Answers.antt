@@ -4,7 +4,7 @@ use Rattle.std.specs.Prelude.{Result, Option, Some, None}
 use Rattle.base.specs.Checks.{Check, answer}
 use Rattle.base.specs.declared.Refusal.{Refusal}
 use Rattle.base.specs.declared.Refusal.TheVariants.{UnknownKind, TotalNotSides, ListTooShort}
-use Rattle.base.specs.Checks.{must, ◌then◌, after, leaves}
+use Rattle.base.specs.Checks.{must, ◌then◌, leaves}
 use Rattle.base.specs.Lists.{over}
 use Rattle.mask.specs.Mask.{words_needed, mask_words}
 use Rattle.dof_layout.specs.Layout.{start_of, total_of, offsets_of, block_of, is_kind_code, blocks_check, layout_check}

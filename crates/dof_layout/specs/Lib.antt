@@ -1,3 +1,4 @@
 pub mod Layout
 pub mod Runs
 pub mod Answers
+pub mod Views

@@ -1,11 +1,13 @@
 // The checks of the blocks: 14, 11, then block by block 17, 15, 16, 1.
 ghost use Rattle.std.specs.Prelude.{◌≡◌, ◌+◌, ◌<◌, ◌≤◌, length};
 ghost use Rattle.base.specs.Checks.{checks_below, side_limit};
-ghost use Rattle.dof_layout.specs.Layout.{is_kind_code, block_check, blocks_check};
+ghost use Rattle.dof_layout.specs.Layout.{is_kind_code, block_check};
 
+use crate::FieldBlocks;
 use base::Refusal;
 use twins::inner::Keys;
 
+// A kind stands in C's lists as its number, and is only tested here.
 #[tactic(auto, unfolding(crate::specs::Layout::is_kind_code))]
 fn is_kind(kind: u8) -> bool
     ensures { result ≡ is_kind_code kind }
@@ -52,27 +54,33 @@ fn check_each(keys: Keys, components: &[u32]) -> Result<(), Refusal>
     Ok(())
 }
 
-#[tactic(auto, using(base::proofs::Checks::checks), unfolding(crate::specs::Layout::blocks_check))]
-pub(crate) fn check(
-    kinds: &[u8],
-    ids: &[u64],
-    fields: &[u32],
-    components: &[u32],
-) -> Result<(), Refusal>
-    ensures { result ≡ blocks_check kinds.now ids.now fields.now components.now }
-{
-    let count = kinds.len();
-    if count == 0 {
-        return Err(Refusal::NoBlock);
+impl FieldBlocks<'_> {
+    ghost use Rattle.dof_layout.specs.Views.{check_blocks};
+
+    #[tactic(auto, using(base::proofs::Checks::checks), unfolding(crate::specs::Layout::blocks_check))]
+    pub(crate) fn check(self) -> Result<(), Refusal>
+        ensures { result ≡ check_blocks self.entry }
+    {
+        let count = self.entity_kinds.len();
+        if count == 0 {
+            return Err(Refusal::NoBlock);
+        }
+        if self.entity_ids.len() != count {
+            return Err(Refusal::wrong_length(count, self.entity_ids.len()));
+        }
+        if self.field_ids.len() != count {
+            return Err(Refusal::wrong_length(count, self.field_ids.len()));
+        }
+        if self.components.len() != count {
+            return Err(Refusal::wrong_length(count, self.components.len()));
+        }
+        check_each(
+            Keys {
+                kinds: self.entity_kinds,
+                ids: self.entity_ids,
+                fields: self.field_ids,
+            },
+            self.components,
+        )
     }
-    if ids.len() != count {
-        return Err(Refusal::wrong_length(count, ids.len()));
-    }
-    if fields.len() != count {
-        return Err(Refusal::wrong_length(count, fields.len()));
-    }
-    if components.len() != count {
-        return Err(Refusal::wrong_length(count, components.len()));
-    }
-    check_each(Keys { kinds, ids, fields }, components)
 }

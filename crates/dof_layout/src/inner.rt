@@ -1,11 +1,21 @@
 // The work of a layout's functions, for callers that have checked: no part of the API.
-ghost use Rattle.std.specs.Prelude.{◌≡◌, ◌<◌, ◌≤◌, length};
+ghost use Rattle.std.specs.Prelude.{◌≡◌, ℕ, ◌<◌, ◌≤◌, length, get_or};
 ghost use Rattle.base.specs.Checks.{side_limit};
 ghost use Rattle.base.specs.Lists.{same_list, over};
 ghost use Rattle.mask.specs.Mask.{words_needed, mask_words};
 ghost use Rattle.dof_layout.specs.Layout.{start_of, total_of, offsets_of, block_of};
 ghost use Rattle.dof_layout.specs.Answers.{has_field};
 ghost use Rattle.dof_layout.specs.Runs.{Run};
+
+// Where the blocks of a layout that was accepted begin and end.
+#[derive(Clone, Copy)]
+pub struct Layout<'a> {
+    pub components: &'a [u32],
+    pub offsets: &'a [u64],
+    ghost totals: { offsets.now ≡ offsets_of components.now },
+    ghost few: { total_of components.now ≤ side_limit },
+    ghost filled: { (b : ℕ) → b < length components.now → 0 < get_or components.now b 0 },
+}
 
 // The running totals at the front of `out`, which has room for them; answers the total.
 #[tactic(auto, using(crate::proofs::Layouts::totals))]
@@ -42,22 +52,6 @@ pub fn are_offsets(components: &[u32], offsets: &[u64]) -> bool
     offsets[components.len()] == total
 }
 
-// The block of node `dof`, which lies between the offsets at `low` and at `high`: the half of them that brackets it.
-pub fn locate(components: &[u32], offsets: &[u64], low: usize, high: usize, dof: u64) -> usize
-    requires { (offsets.now ≡ offsets_of components.now) × (low < high) × (high ≤ length components.now) × (start_of components.now low ≤ dof) × (dof < start_of components.now high) }
-    ensures { result ≡ block_of components.now dof }
-{
-    if high - low == 1 {
-        return low;
-    }
-    let middle = low + (high - low) / 2;
-    if offsets[middle] <= dof {
-        locate(components, offsets, middle, high, dof)
-    } else {
-        locate(components, offsets, low, middle, dof)
-    }
-}
-
 // The first block from a on that does not have the field, or the number of blocks.
 fn run_end(fields: &[u32], field: u32, a: usize) -> usize
     requires { a ≤ length fields.now }
@@ -71,25 +65,45 @@ fn run_end(fields: &[u32], field: u32, a: usize) -> usize
     fields.len()
 }
 
-// The mask of the nodes whose block has the field, on a list of exactly its words. Neighbouring blocks of the field are one range.
-pub fn fill_field(
-    fields: &[u32],
-    components: &[u32],
-    offsets: &[u64],
-    field: u32,
-    words: &mut [u64],
-)
-    requires { (offsets.now ≡ offsets_of components.now) × (length fields.now ≡ length components.now) × (total_of components.now ≤ side_limit) × (length words.old ≡ words_needed (total_of components.now)) }
-    ensures { words.new ≡ mask_words (total_of components.now) (has_field fields.now components.now field) }
-{
-    let total = offsets[components.len()] as usize;
-    mask::inner::clear(total, words);
-    let mut a: usize = 0;
-    while a < fields.len() {
-        let b = run_end(fields, field, a);
-        let start = offsets[a] as usize;
-        let end = offsets[b] as usize;
-        mask::inner::add_range(total, words, start, end);
-        a = b + 1;
+impl Layout<'_> {
+    // How many nodes it has: the last offset.
+    #[tactic(auto, using(crate::proofs::Layouts::last))]
+    pub fn total(self) -> usize
+        ensures { result ≡ total_of self.entry.components.now }
+    {
+        self.offsets[self.components.len()] as usize
+    }
+
+    // The block of node `dof`, which lies between the offsets at `low` and at `high`: the half of them that brackets it.
+    pub fn locate(self, low: usize, high: usize, dof: u64) -> usize
+        requires { (low < high) × (high ≤ length self.components.now) × (start_of self.components.now low ≤ dof) × (dof < start_of self.components.now high) }
+        ensures { result ≡ block_of self.entry.components.now dof }
+    {
+        if high - low == 1 {
+            return low;
+        }
+        let middle = low + (high - low) / 2;
+        if self.offsets[middle] <= dof {
+            self.locate(middle, high, dof)
+        } else {
+            self.locate(low, middle, dof)
+        }
+    }
+
+    // The mask of the nodes whose block has the field, on a list of exactly its words. Neighbouring blocks of the field are one range.
+    pub fn fill_field(self, fields: &[u32], field: u32, words: &mut [u64])
+        requires { (length fields.now ≡ length self.components.now) × (length words.old ≡ words_needed (total_of self.components.now)) }
+        ensures { words.new ≡ mask_words (total_of self.entry.components.now) (has_field fields.now self.entry.components.now field) }
+    {
+        let total = self.total();
+        mask::inner::clear(total, words);
+        let mut a: usize = 0;
+        while a < fields.len() {
+            let b = run_end(fields, field, a);
+            let start = self.offsets[a] as usize;
+            let end = self.offsets[b] as usize;
+            mask::inner::add_range(total, words, start, end);
+            a = b + 1;
+        }
     }
 }

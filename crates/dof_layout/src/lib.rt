@@ -1,12 +1,12 @@
 // A layout of the unknowns: blocks of consecutive nodes, each a kind, an id, a field id and a component count. The functions of
 // FieldAwareDofLayout on lent lists.
-#![tactic(auto)]
+#![tactic(auto, using(crate::proofs::Layouts::views))]
 
-ghost use Rattle.std.specs.Prelude.{◌≡◌};
-ghost use Rattle.dof_layout.specs.Layout.{layout_check};
-ghost use Rattle.dof_layout.specs.Answers.{code_of, kind_answer, new_answer, new_offsets, total_answer, range_answer, locate_answer, square_check, field_answer, field_words};
+ghost use Rattle.std.specs.Prelude.{◌≡◌, IfOk};
+ghost use Rattle.dof_layout.specs.Answers.{code_of, kind_answer, new_answer, new_offsets, total_answer, range_answer, locate_answer, field_answer, field_words};
 
 use base::Refusal;
+use inner::Layout;
 
 mod blocks;
 pub mod inner;
@@ -36,11 +36,29 @@ pub struct Range {
     pub end: u64,
 }
 
-impl DofEntityKind {
-    pub fn code(self) -> u32
-        ensures { result ≡ code_of self }
-    {
-        match self {
+// The blocks of a layout as a caller lends them, one list for each of their parts.
+#[derive(Clone, Copy)]
+pub struct FieldBlocks<'a> {
+    pub entity_kinds: &'a [u8],
+    pub entity_ids: &'a [u64],
+    pub field_ids: &'a [u32],
+    pub components: &'a [u32],
+}
+
+// A built layout as a caller lends it.
+#[derive(Clone, Copy)]
+pub struct FieldAwareDofLayout<'a> {
+    pub blocks: FieldBlocks<'a>,
+    pub offsets: &'a [u64],
+}
+
+// Its number.
+impl From<DofEntityKind> for u32 {
+    ghost from_gives = { λ k n. n ≡ code_of k };
+
+    #[tactic(auto, unfolding(crate::specs::Answers::code_of))]
+    fn from(kind: DofEntityKind) -> u32 {
+        match kind {
             DofEntityKind::Node => 1,
             DofEntityKind::Edge => 2,
             DofEntityKind::Face => 3,
@@ -53,153 +71,131 @@ impl DofEntityKind {
 }
 
 // `DofEntityKind::from_code` of the Rust.
-pub fn kind_of(code: u32) -> Result<DofEntityKind, Refusal>
-    ensures { result ≡ kind_answer code }
-{
-    match code {
-        1 => Ok(DofEntityKind::Node),
-        2 => Ok(DofEntityKind::Edge),
-        3 => Ok(DofEntityKind::Face),
-        4 => Ok(DofEntityKind::Element),
-        5 => Ok(DofEntityKind::Multiplier),
-        6 => Ok(DofEntityKind::Constraint),
-        255 => Ok(DofEntityKind::Other),
-        _ => Err(Refusal::UnknownKind),
+impl TryFrom<u32> for DofEntityKind {
+    type Error = Refusal;
+
+    ghost try_from_gives = { λ code r. r ≡ kind_answer code };
+
+    #[tactic(auto, unfolding(base::specs::Checks::must, crate::specs::Layout::is_kind_code, crate::specs::Answers::kind_named))]
+    fn try_from(code: u32) -> Result<Self, Refusal> {
+        match code {
+            1 => Ok(Self::Node),
+            2 => Ok(Self::Edge),
+            3 => Ok(Self::Face),
+            4 => Ok(Self::Element),
+            5 => Ok(Self::Multiplier),
+            6 => Ok(Self::Constraint),
+            255 => Ok(Self::Other),
+            _ => Err(Refusal::UnknownKind),
+        }
     }
 }
 
 // The running totals are written to `out`; answers the total.
-pub fn new(
-    entity_kinds: &[u8],
-    entity_ids: &[u64],
-    field_ids: &[u32],
-    components: &[u32],
-    out: &mut [u64],
-) -> Result<u64, Refusal>
-    ensures value { result ≡ new_answer entity_kinds.now entity_ids.now field_ids.now components.now out.old }
-    ensures out_after { out.new ≡ new_offsets entity_kinds.now entity_ids.now field_ids.now components.now out.old }
+pub fn new(blocks: FieldBlocks, out: &mut [u64]) -> Result<u64, Refusal>
+    ensures value { result ≡ new_answer blocks.entry.entity_kinds.now blocks.entry.entity_ids.now blocks.entry.field_ids.now blocks.entry.components.now out.old }
+    ensures out_after { out.new ≡ new_offsets blocks.entry.entity_kinds.now blocks.entry.entity_ids.now blocks.entry.field_ids.now blocks.entry.components.now out.old }
 {
-    blocks::check(entity_kinds, entity_ids, field_ids, components)?;
-    if out.len() <= entity_kinds.len() {
+    blocks.check()?;
+    if out.len() <= blocks.entity_kinds.len() {
         return Err(Refusal::ListTooShort);
     }
-    Ok(inner::write_offsets(components, out))
+    Ok(inner::write_offsets(blocks.components, out))
 }
 
-// A built layout: its blocks, then 26.
-pub fn check(
-    entity_kinds: &[u8],
-    entity_ids: &[u64],
-    field_ids: &[u32],
-    components: &[u32],
-    offsets: &[u64],
-) -> Result<(), Refusal>
-    ensures { result ≡ layout_check entity_kinds.now entity_ids.now field_ids.now components.now offsets.now }
-{
-    blocks::check(entity_kinds, entity_ids, field_ids, components)?;
-    if !inner::are_offsets(components, offsets) {
-        return Err(Refusal::BadPointers);
-    }
-    Ok(())
-}
+impl FieldAwareDofLayout<'_> {
+    ghost use Rattle.dof_layout.specs.Views.{check_layout, check_square, SoundLayout};
 
-pub fn total_dofs(
-    entity_kinds: &[u8],
-    entity_ids: &[u64],
-    field_ids: &[u32],
-    components: &[u32],
-    offsets: &[u64],
-) -> Result<u64, Refusal>
-    ensures { result ≡ total_answer entity_kinds.now entity_ids.now field_ids.now components.now offsets.now }
-{
-    check(entity_kinds, entity_ids, field_ids, components, offsets)?;
-    Ok(offsets[components.len()])
-}
+    // A built layout: its blocks, then 26.
+    pub fn check(self) -> Result<(), Refusal>
+        ensures value { result ≡ check_layout self.entry }
+        ensures accepted { IfOk result (λ t. SoundLayout self.entry) }
+    {
+        self.blocks.check()?;
+        if !inner::are_offsets(self.blocks.components, self.offsets) {
+            return Err(Refusal::BadPointers);
+        }
+        Ok(())
+    }
 
-pub fn block_range(
-    entity_kinds: &[u8],
-    entity_ids: &[u64],
-    field_ids: &[u32],
-    components: &[u32],
-    offsets: &[u64],
-    index: u64,
-) -> Result<Option<Range>, Refusal>
-    ensures { result ≡ range_answer entity_kinds.now entity_ids.now field_ids.now components.now offsets.now index }
-{
-    check(entity_kinds, entity_ids, field_ids, components, offsets)?;
-    if index >= entity_kinds.len() as u64 {
-        return Ok(None);
+    pub fn total_dofs(self) -> Result<u64, Refusal>
+        ensures { result ≡ total_answer self.entry.blocks.entity_kinds.now self.entry.blocks.entity_ids.now self.entry.blocks.field_ids.now self.entry.blocks.components.now self.entry.offsets.now }
+    {
+        self.check()?;
+        let layout = Layout {
+            components: self.blocks.components,
+            offsets: self.offsets,
+        };
+        Ok(layout.total() as u64)
     }
-    let b = index as usize;
-    Ok(Some(Range {
-        start: offsets[b],
-        end: offsets[b + 1],
-    }))
-}
 
-pub fn locate(
-    entity_kinds: &[u8],
-    entity_ids: &[u64],
-    field_ids: &[u32],
-    components: &[u32],
-    offsets: &[u64],
-    dof: u64,
-) -> Result<Option<DofAddress>, Refusal>
-    ensures { result ≡ locate_answer entity_kinds.now entity_ids.now field_ids.now components.now offsets.now dof }
-{
-    check(entity_kinds, entity_ids, field_ids, components, offsets)?;
-    if dof >= offsets[components.len()] {
-        return Ok(None);
+    pub fn block_range(self, index: u64) -> Result<Option<Range>, Refusal>
+        ensures { result ≡ range_answer self.entry.blocks.entity_kinds.now self.entry.blocks.entity_ids.now self.entry.blocks.field_ids.now self.entry.blocks.components.now self.entry.offsets.now index }
+    {
+        self.check()?;
+        if index >= self.blocks.entity_kinds.len() as u64 {
+            return Ok(None);
+        }
+        let b = index as usize;
+        Ok(Some(Range {
+            start: self.offsets[b],
+            end: self.offsets[b + 1],
+        }))
     }
-    let block_index = inner::locate(components, offsets, 0, components.len(), dof);
-    let component = (dof - offsets[block_index]) as u32;
-    Ok(Some(DofAddress {
-        block_index,
-        component,
-    }))
-}
 
-pub fn validate_square_matrix_size(
-    entity_kinds: &[u8],
-    entity_ids: &[u64],
-    field_ids: &[u32],
-    components: &[u32],
-    offsets: &[u64],
-    nrows: usize,
-    ncols: usize,
-) -> Result<(), Refusal>
-    ensures { result ≡ square_check entity_kinds.now entity_ids.now field_ids.now components.now offsets.now nrows ncols }
-{
-    check(entity_kinds, entity_ids, field_ids, components, offsets)?;
-    let total = offsets[components.len()] as usize;
-    if nrows != total {
-        return Err(Refusal::TotalNotSides);
+    pub fn locate(self, dof: u64) -> Result<Option<DofAddress>, Refusal>
+        ensures { result ≡ locate_answer self.entry.blocks.entity_kinds.now self.entry.blocks.entity_ids.now self.entry.blocks.field_ids.now self.entry.blocks.components.now self.entry.offsets.now dof }
+    {
+        self.check()?;
+        let layout = Layout {
+            components: self.blocks.components,
+            offsets: self.offsets,
+        };
+        if dof >= layout.total() as u64 {
+            return Ok(None);
+        }
+        let block_index = layout.locate(0, layout.components.len(), dof);
+        let component = (dof - self.offsets[block_index]) as u32;
+        Ok(Some(DofAddress {
+            block_index,
+            component,
+        }))
     }
-    if ncols != total {
-        return Err(Refusal::TotalNotSides);
-    }
-    Ok(())
-}
 
-// The mask of the nodes whose block has the field; answers its length.
-pub fn field_mask(
-    entity_kinds: &[u8],
-    entity_ids: &[u64],
-    field_ids: &[u32],
-    components: &[u32],
-    offsets: &[u64],
-    field_id: u32,
-    out: &mut [u64],
-) -> Result<u64, Refusal>
-    ensures value { result ≡ field_answer entity_kinds.now entity_ids.now field_ids.now components.now offsets.now out.old }
-    ensures out_after { out.new ≡ field_words entity_kinds.now entity_ids.now field_ids.now components.now offsets.now field_id out.old }
-{
-    check(entity_kinds, entity_ids, field_ids, components, offsets)?;
-    let total = offsets[components.len()];
-    let need = mask::inner::words_for(total as usize);
-    if out.len() < need {
-        return Err(Refusal::ListTooShort);
+    pub fn validate_square_matrix_size(self, nrows: usize, ncols: usize) -> Result<(), Refusal>
+        ensures { result ≡ check_square self.entry nrows ncols }
+    {
+        self.check()?;
+        let layout = Layout {
+            components: self.blocks.components,
+            offsets: self.offsets,
+        };
+        let total = layout.total();
+        if nrows != total {
+            return Err(Refusal::TotalNotSides);
+        }
+        if ncols != total {
+            return Err(Refusal::TotalNotSides);
+        }
+        Ok(())
     }
-    inner::fill_field(field_ids, components, offsets, field_id, &mut out[..need]);
-    Ok(total)
+
+    // The mask of the nodes whose block has the field; answers its length.
+    pub fn field_mask(self, field_id: u32, out: &mut [u64]) -> Result<u64, Refusal>
+        ensures value { result ≡ field_answer self.entry.blocks.entity_kinds.now self.entry.blocks.entity_ids.now self.entry.blocks.field_ids.now self.entry.blocks.components.now self.entry.offsets.now out.old }
+        ensures out_after { out.new ≡ field_words self.entry.blocks.entity_kinds.now self.entry.blocks.entity_ids.now self.entry.blocks.field_ids.now self.entry.blocks.components.now self.entry.offsets.now field_id out.old }
+    {
+        self.check()?;
+        let layout = Layout {
+            components: self.blocks.components,
+            offsets: self.offsets,
+        };
+        let total = layout.total();
+        let need = mask::inner::words_for(total);
+        if out.len() < need {
+            return Err(Refusal::ListTooShort);
+        }
+        layout.fill_field(self.blocks.field_ids, field_id, &mut out[..need]);
+        Ok(total as u64)
+    }
 }

@@ -1,29 +1,25 @@
 -- What the check of a topology accepts: exactly two sides of one set of pairs. Assumes nothing.
-use mathlib.Core.Path.{◌≡◌, refl, sym, ap, ◌∙◌, subst, fun_ext}
+use mathlib.Core.Path.{◌≡◌, refl, sym, ap, ◌∙◌, fun_ext}
 use Rattle.std.specs.Prelude.{Ok}
-use Rattle.base.specs.Checks.{Check}
 use mathlib.Core.Logic.{◌⊎◌, inl, inr}
 use mathlib.Core.Bool.{Bool, true, false, cond, ◌&&◌}
 use mathlib.Core.List.{List}
 use Prim.Native.Nat.{ℕ, ◌^◌, ◌≤◌, ◌<◌}
 use native.Mathlib.Omega.{arith}
-use borrow.Author.Tests.{eqb-true, eq-eqb, ltb-true}
+use borrow.Author.Tests.{eqb-true, eq-eqb}
 use lib.Dec.{T, eqb}
 use lib.ListN.{length, get_or}
 use Rattle.base.specs.Checks.{◌then◌, side_limit, entry_limit}
 use Rattle.base.proofs.Bools.{and_left, and_right, T_true, T_false, lt-or-le}
-use Rattle.base.proofs.Checks.{both-passed, passed}
+use Rattle.base.proofs.Checks.{both-passed}
 use Rattle.side.specs.Side.{flip, side_words, side_masks, side_ptr, pair_count, side_holds}
-use Rattle.side.specs.Check.{bits_in}
+use Rattle.side.specs.Check.{bits_in, IsSide}
 use Rattle.side.specs.declared.Fault.{Fault}
-use Rattle.side.specs.declared.BadWord.{BadWord}
 use Rattle.side.proofs.Sides.{held-row, held-col, own-words, own-masks, own-ptr, side-holds, side-is, side-count, as_many, pairs-flip}
 use Rattle.side.proofs.Accepted.{limits_passed, limits_pass, sound-only, sound-accepted, lists-not-sound, word-not-sound, disagree-not-sound, sound-side, side-sound, side-as}
 use Rattle.agreement.specs.Agreement.{turned}
 use Rattle.agreement.proofs.Turned.{turned_pair, pair-turned}
 use Rattle.dual_topology.specs.Check.{first_fault, sides_agree, topology_fault, topology_check, IsTopology}
-use Rattle.dual_topology.specs.Answers.{rows_of, width_of, row_set, row_check}
-use Rattle.dual_topology.specs.declared.RowOf.{RowOf}
 
 -- ---- the first of two faults
 
@@ -38,17 +34,12 @@ pub first_next : (a b : Fault) → a ≡ Fault.Sound → first_fault a b ≡ b
 unfolding first_fault
 first_next a b e = ap (λ (f : Fault). first_fault f b) e
 
-pub first-lists : (a b : Fault) → a ≡ Fault.Lists → Fault.Lists ≡ first_fault a b
+pub first-other : (a b : Fault) → (a ≡ Fault.Sound → ⊥) → a ≡ first_fault a b
 unfolding first_fault
-first-lists a b e = ap (λ (f : Fault). first_fault f b) (sym e)
-
-pub first_word : (a b : Fault) (w : BadWord) → a ≡ Fault.Word w → Fault.Word w ≡ first_fault a b
-unfolding first_fault
-first_word a b w e = ap (λ (f : Fault). first_fault f b) (sym e)
-
-pub first-disagree : (a b : Fault) → a ≡ Fault.Disagree → Fault.Disagree ≡ first_fault a b
-unfolding first_fault
-first-disagree a b e = ap (λ (f : Fault). first_fault f b) (sym e)
+first-other Fault.Sound b n = absurd (n refl)
+first-other Fault.Lists b n = refl
+first-other (Fault.Word w) b n = refl
+first-other Fault.Disagree b n = refl
 
 -- ---- an accepted topology
 
@@ -88,6 +79,24 @@ module _ (nrows ncols : ℕ) (ptr idx masks : List ℕ) (pairs nrows2 ncols2 : �
   not-agreed f =
       sym (ap (λ (b : Bool). cond b Fault.Sound Fault.Disagree) (T_false (sides_agree nrows ncols ptr idx masks pairs nrows2 ncols2 ptr2 idx2 masks2 pairs2) (λ t. f (T_true (sides_agree nrows ncols ptr idx masks pairs nrows2 ncols2 ptr2 idx2 masks2 pairs2) t))))
 
+  -- two sides without fault that agree
+  pub agreed-topology : IsSide nrows ncols ptr idx masks → pairs ≡ bits_in masks 0 (length masks) → IsSide nrows2 ncols2 ptr2 idx2 masks2
+      → cond (sides_agree nrows ncols ptr idx masks pairs nrows2 ncols2 ptr2 idx2 masks2 pairs2) Fault.Sound Fault.Disagree ≡ Fault.Sound
+      → Accepts nrows ncols ptr idx masks pairs nrows2 ncols2 ptr2 idx2 masks2 pairs2
+  agreed-topology r counted c e =
+      let a = agreed (both (sides_agree nrows ncols ptr idx masks pairs nrows2 ncols2 ptr2 idx2 masks2 pairs2) e) in
+      record {
+        topology = record { rows = r; columns = side-as nrows2 ncols2 ncols nrows ptr2 idx2 masks2 a.0 a.1 c; flipped = a.3 };
+        as_rows = a.0;
+        as_columns = a.1;
+        as_pairs = a.2;
+        counted = counted;
+      }
+    where
+      both : (b : Bool) → cond b Fault.Sound Fault.Disagree ≡ Fault.Sound → b ≡ true
+      both true e = refl
+      both false e = absurd (disagree-not-sound e)
+
   pub accepted-topology : ((k : ℕ) → get_or masks k 0 < 2 ^ 64) → ((k : ℕ) → get_or masks2 k 0 < 2 ^ 64) → topology_check nrows ncols ptr idx masks pairs nrows2 ncols2 ptr2 idx2 masks2 pairs2 ≡ Ok tt
       → Accepts nrows ncols ptr idx masks pairs nrows2 ncols2 ptr2 idx2 masks2 pairs2
   unfolding topology_check topology_fault
@@ -100,22 +109,7 @@ module _ (nrows ncols : ℕ) (ptr idx masks : List ℕ) (pairs nrows2 ncols2 : �
       let w2 = limits_passed nrows2 ncols2 idx2 masks2 pairs2 e2.0 in
       let r = sound-side nrows ncols ptr idx masks pairs w.few_rows w.few_cols w.few_words w.few_pairs fits f1.0 in
       let c = sound-side nrows2 ncols2 ptr2 idx2 masks2 pairs2 w2.few_rows w2.few_cols w2.few_words w2.few_pairs fits2 f2.0 in
-      let a = agreed (both (sides_agree nrows ncols ptr idx masks pairs nrows2 ncols2 ptr2 idx2 masks2 pairs2) f2.1) in
-      record {
-        topology = record {
-          rows = r.0;
-          columns = side-as nrows2 ncols2 ncols nrows ptr2 idx2 masks2 a.0 a.1 c.0;
-          flipped = a.3;
-        };
-        as_rows = a.0;
-        as_columns = a.1;
-        as_pairs = a.2;
-        counted = r.1;
-      }
-    where
-      both : (b : Bool) → cond b Fault.Sound Fault.Disagree ≡ Fault.Sound → b ≡ true
-      both true e = refl
-      both false e = absurd (disagree-not-sound e)
+      agreed-topology r.0 r.1 c.0 f2.1
 
 -- ---- a topology is a set of pairs
 
@@ -224,32 +218,3 @@ module _ (nrows ncols : ℕ) (s : ℕ → ℕ → Bool) (few_rows : nrows ≤ si
         agreeing nrows ncols P W M (pair_count nrows ncols s) ncols nrows P2 W2 M2 (pair_count nrows ncols s) refl refl refl sides-are.flipped,
       )
       (sound-accepted Fault.Sound refl)
-
--- ---- a row that is named by side and number
-
--- what is said of a row of the rows, and of one of the columns
-module _ {A : Type 0} (nrows ncols : ℕ) (ptr idx masks ptr2 idx2 masks2 : List ℕ) (m : IsTopology nrows ncols ptr idx masks ptr2 idx2 masks2) (f : ℕ → (ℕ → Bool) → A) (of : RowOf) (k : ℕ) where
-  pub of-rows : of ≡ RowOf.Rows → f ncols (side_holds ptr idx masks k) ≡ f (width_of of nrows ncols) (row_set of (side_holds ptr idx masks) k)
-  of-rows e = ap (λ (o : RowOf). f (width_of o nrows ncols) (row_set o (side_holds ptr idx masks) k)) (sym e)
-
-  pub of-columns : of ≡ RowOf.Columns → k < ncols → f nrows (side_holds ptr2 idx2 masks2 k) ≡ f (width_of of nrows ncols) (row_set of (side_holds ptr idx masks) k)
-  of-columns e h =
-      ap (f nrows) (column-is nrows ncols ptr idx masks ptr2 idx2 masks2 m k h)
-      ∙ ap (λ (o : RowOf). f (width_of o nrows ncols) (row_set o (side_holds ptr idx masks) k)) (sym e)
-
--- an accepted row
-pub row-accepted : (check : Check) (k rows : ℕ) → row_check check k rows ≡ Ok tt → (check ≡ Ok tt) × (k < rows)
-unfolding row_check
-row-accepted check k rows e = let q = both-passed _ _ e in (q.0, ltb-true k rows (passed _ _ q.1))
-
-pub rows-number : (of : RowOf) (k nrows ncols : ℕ) → of ≡ RowOf.Rows → k < rows_of of nrows ncols → k < nrows
-rows-number of k nrows ncols e h = subst (λ (o : RowOf). k < rows_of o nrows ncols) e h
-
-pub columns-number : (of : RowOf) (k nrows ncols : ℕ) → of ≡ RowOf.Columns → k < rows_of of nrows ncols → k < ncols
-columns-number of k nrows ncols e h = subst (λ (o : RowOf). k < rows_of o nrows ncols) e h
-
-pub rows-width : (of : RowOf) (c nrows ncols : ℕ) → of ≡ RowOf.Rows → c ≤ width_of of nrows ncols → c ≤ ncols
-rows-width of c nrows ncols e h = subst (λ (o : RowOf). c ≤ width_of o nrows ncols) e h
-
-pub columns-width : (of : RowOf) (c nrows ncols : ℕ) → of ≡ RowOf.Columns → c ≤ width_of of nrows ncols → c ≤ nrows
-columns-width of c nrows ncols e h = subst (λ (o : RowOf). c ≤ width_of o nrows ncols) e h

@@ -1,3 +1,4 @@
 pub mod Accepted
 pub mod Built
 pub mod Worked
+pub mod Rows

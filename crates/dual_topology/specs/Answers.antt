@@ -1,11 +1,11 @@
 -- What the calls on a topology answer, and what they leave in the lists that they are lent. A topology is the set of pairs that its rows side
 -- holds; row k of its columns is that set turned round.
 use Rattle.std.specs.Prelude.{Bool, ◌&&◌, List, ℕ, ◌+◌, ◌*◌, leb, ltb, Float, length, replicate}
-use Rattle.std.specs.Prelude.{Result, Ok, Option, Some, None}
+use Rattle.std.specs.Prelude.{Result, Option}
 use Rattle.base.specs.Checks.{Check, answer}
 use Rattle.base.specs.declared.Refusal.{Refusal}
 use Rattle.base.specs.declared.Refusal.TheVariants.{OutOfRange, ListTooShort}
-use Rattle.base.specs.Checks.{must, ◌then◌, after, leaves}
+use Rattle.base.specs.Checks.{must, ◌then◌, leaves}
 use Rattle.base.specs.Lists.{over}
 use Rattle.base.specs.Sets.{count_below, members_below}
 use Rattle.word.specs.Answers.{entry}

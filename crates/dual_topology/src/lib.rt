@@ -1,18 +1,28 @@
-// Both sides of a topology, `AbtmDualTopology` of the Rust: the rows, and the columns as rows of the transpose. A topology is handed in as two
-// sides, each with its own sizes, lists and pair count; its check finds sides that disagree.
+// Both sides of a topology, `AbtmDualTopology` of the Rust: the rows, and the columns as rows of the transpose.
 #![tactic(auto)]
 
-ghost use Rattle.std.specs.Prelude.{◌≡◌, ◌+◌, length};
-ghost use Rattle.csr32.specs.Matrix.{stored};
-ghost use Rattle.side.specs.Side.{flip, side_holds};
+ghost use Rattle.std.specs.Prelude.{◌≡◌, Err, IfOk, IfErr, ◌+◌, length};
+ghost use Rattle.csr32.specs.Views.{stores};
+ghost use Rattle.side.specs.Side.{flip};
 ghost use Rattle.side.specs.Built.{built_ptr, built_words, built_masks};
-ghost use Rattle.dual_topology.specs.Check.{topology_check};
-ghost use Rattle.dual_topology.specs.Answers.{build_check, build_answer, scratch, stats_of, stats_answer, total_bytes, bytes_per_nnz, rows_of, width_of, row_set, row_check, row_words_answer, row_popcount_answer, row_contains_answer, row_rank_answer, row_select_answer, row_word_answer};
+ghost use Rattle.dual_topology.specs.Answers.{build_answer, scratch, stats_of, stats_answer, total_bytes, bytes_per_nnz, row_words_answer, row_popcount_answer, row_contains_answer, row_rank_answer, row_select_answer, row_word_answer};
+ghost use Rattle.dual_topology.specs.Views.{check_build};
 
 use base::Refusal;
+use csr32::Csr32Matrix;
+use csr32::inner::Matrix;
+use side::AbtmTopology;
+use side::inner::Side;
 use word::AbtmTopologyWord;
 
 pub mod inner;
+
+// A topology as a caller lends it: the rows side and the columns side, each with its own sizes, so that two can disagree.
+#[derive(Clone, Copy)]
+pub struct AbtmDualTopology<'a> {
+    pub rows: AbtmTopology<'a>,
+    pub columns: AbtmTopology<'a>,
+}
 
 // How many words each side has, and how many pairs both have.
 #[derive(Clone, Copy)]
@@ -32,7 +42,7 @@ pub struct AbtmDualTopologyStats {
     pub column_metadata_bytes: u32,
 }
 
-// The side that a row belongs to.
+// The side that a row belongs to. A caller names it as data, and it chooses a side in one place (`side_of`): a closure would be no plainer.
 #[derive(Clone, Copy)]
 pub enum RowOf {
     Rows,
@@ -49,21 +59,13 @@ impl AbtmDualTopologyStats {
     pub fn metadata_bytes_per_nnz(self) -> f64
         ensures { result ≡ bytes_per_nnz self }
     {
-        if self.structural_nnz == 0 {
-            0.0
-        } else {
-            self.total_metadata_bytes() as f64 / self.structural_nnz as f64
-        }
+        topology::inner::ratio(self.total_metadata_bytes(), self.structural_nnz as u64)
     }
 }
 
 // The matrix, then the lengths of the eight lists.
 fn check_build(
-    nrows: usize,
-    ncols: usize,
-    row_ptr: &[u32],
-    col_idx: &[u32],
-    values: &[f64],
+    matrix: Csr32Matrix,
     row_word_ptr: &[u32],
     row_word_indices: &[u32],
     row_masks: &[u64],
@@ -73,13 +75,13 @@ fn check_build(
     starts: &[u32],
     order: &[u32],
 ) -> Result<(), Refusal>
-    ensures { result ≡ build_check nrows ncols row_ptr.now col_idx.now values.now row_word_ptr.now row_word_indices.now row_masks.now column_word_ptr.now column_word_indices.now column_masks.now starts.now order.now }
+    ensures { result ≡ check_build matrix.entry row_word_ptr.now row_word_indices.now row_masks.now column_word_ptr.now column_word_indices.now column_masks.now starts.now order.now }
 {
-    csr32::validate(nrows, ncols, row_ptr, col_idx, values)?;
+    matrix.validate()?;
     inner::check_room(
-        nrows,
-        ncols,
-        col_idx.len(),
+        matrix.nrows,
+        matrix.ncols,
+        matrix.col_idx.len(),
         row_word_ptr.len(),
         row_word_indices.len(),
         row_masks.len(),
@@ -91,13 +93,10 @@ fn check_build(
     )
 }
 
-// `starts` and `order` are scratch: a number for each column and one, and one for each entry.
+// `starts` and `order` are scratch: a number for each column and one, and one for each entry. Lists that are written are handed in one by one:
+// each has an equation, and in a struct behind `&mut` each contract would say besides that the references stay.
 pub fn from_csr32(
-    nrows: usize,
-    ncols: usize,
-    row_ptr: &[u32],
-    col_idx: &[u32],
-    values: &[f64],
+    matrix: Csr32Matrix,
     row_word_ptr: &mut [u32],
     row_word_indices: &mut [u32],
     row_masks: &mut [u64],
@@ -107,22 +106,18 @@ pub fn from_csr32(
     starts: &mut [u32],
     order: &mut [u32],
 ) -> Result<TopologyCounts, Refusal>
-    ensures value { result ≡ build_answer (build_check nrows ncols row_ptr.now col_idx.now values.now row_word_ptr.old row_word_indices.old row_masks.old column_word_ptr.old column_word_indices.old column_masks.old starts.old order.old) nrows ncols row_ptr.now col_idx.now }
-    ensures row_pointers { row_word_ptr.new ≡ built_ptr (build_check nrows ncols row_ptr.now col_idx.now values.now row_word_ptr.old row_word_indices.old row_masks.old column_word_ptr.old column_word_indices.old column_masks.old starts.old order.old) nrows ncols (stored row_ptr.now col_idx.now) row_word_ptr.old }
-    ensures row_words { row_word_indices.new ≡ built_words (build_check nrows ncols row_ptr.now col_idx.now values.now row_word_ptr.old row_word_indices.old row_masks.old column_word_ptr.old column_word_indices.old column_masks.old starts.old order.old) nrows ncols (stored row_ptr.now col_idx.now) (length col_idx.now) row_word_indices.old }
-    ensures row_masked { row_masks.new ≡ built_masks (build_check nrows ncols row_ptr.now col_idx.now values.now row_word_ptr.old row_word_indices.old row_masks.old column_word_ptr.old column_word_indices.old column_masks.old starts.old order.old) nrows ncols (stored row_ptr.now col_idx.now) (length col_idx.now) row_masks.old }
-    ensures column_pointers { column_word_ptr.new ≡ built_ptr (build_check nrows ncols row_ptr.now col_idx.now values.now row_word_ptr.old row_word_indices.old row_masks.old column_word_ptr.old column_word_indices.old column_masks.old starts.old order.old) ncols nrows (flip (stored row_ptr.now col_idx.now)) column_word_ptr.old }
-    ensures column_words { column_word_indices.new ≡ built_words (build_check nrows ncols row_ptr.now col_idx.now values.now row_word_ptr.old row_word_indices.old row_masks.old column_word_ptr.old column_word_indices.old column_masks.old starts.old order.old) ncols nrows (flip (stored row_ptr.now col_idx.now)) (length col_idx.now) column_word_indices.old }
-    ensures column_masked { column_masks.new ≡ built_masks (build_check nrows ncols row_ptr.now col_idx.now values.now row_word_ptr.old row_word_indices.old row_masks.old column_word_ptr.old column_word_indices.old column_masks.old starts.old order.old) ncols nrows (flip (stored row_ptr.now col_idx.now)) (length col_idx.now) column_masks.old }
-    ensures scratch_starts { starts.new ≡ scratch (build_check nrows ncols row_ptr.now col_idx.now values.now row_word_ptr.old row_word_indices.old row_masks.old column_word_ptr.old column_word_indices.old column_masks.old starts.old order.old) (ncols + 1) starts.old }
-    ensures scratch_order { order.new ≡ scratch (build_check nrows ncols row_ptr.now col_idx.now values.now row_word_ptr.old row_word_indices.old row_masks.old column_word_ptr.old column_word_indices.old column_masks.old starts.old order.old) (length col_idx.now) order.old }
+    ensures value { result ≡ build_answer (check_build matrix.entry row_word_ptr.old row_word_indices.old row_masks.old column_word_ptr.old column_word_indices.old column_masks.old starts.old order.old) matrix.entry.nrows matrix.entry.ncols matrix.entry.row_ptr.now matrix.entry.col_idx.now }
+    ensures row_pointers { row_word_ptr.new ≡ built_ptr (check_build matrix.entry row_word_ptr.old row_word_indices.old row_masks.old column_word_ptr.old column_word_indices.old column_masks.old starts.old order.old) matrix.entry.nrows matrix.entry.ncols (stores matrix.entry) row_word_ptr.old }
+    ensures row_words { row_word_indices.new ≡ built_words (check_build matrix.entry row_word_ptr.old row_word_indices.old row_masks.old column_word_ptr.old column_word_indices.old column_masks.old starts.old order.old) matrix.entry.nrows matrix.entry.ncols (stores matrix.entry) (length matrix.entry.col_idx.now) row_word_indices.old }
+    ensures row_masked { row_masks.new ≡ built_masks (check_build matrix.entry row_word_ptr.old row_word_indices.old row_masks.old column_word_ptr.old column_word_indices.old column_masks.old starts.old order.old) matrix.entry.nrows matrix.entry.ncols (stores matrix.entry) (length matrix.entry.col_idx.now) row_masks.old }
+    ensures column_pointers { column_word_ptr.new ≡ built_ptr (check_build matrix.entry row_word_ptr.old row_word_indices.old row_masks.old column_word_ptr.old column_word_indices.old column_masks.old starts.old order.old) matrix.entry.ncols matrix.entry.nrows (flip (stores matrix.entry)) column_word_ptr.old }
+    ensures column_words { column_word_indices.new ≡ built_words (check_build matrix.entry row_word_ptr.old row_word_indices.old row_masks.old column_word_ptr.old column_word_indices.old column_masks.old starts.old order.old) matrix.entry.ncols matrix.entry.nrows (flip (stores matrix.entry)) (length matrix.entry.col_idx.now) column_word_indices.old }
+    ensures column_masked { column_masks.new ≡ built_masks (check_build matrix.entry row_word_ptr.old row_word_indices.old row_masks.old column_word_ptr.old column_word_indices.old column_masks.old starts.old order.old) matrix.entry.ncols matrix.entry.nrows (flip (stores matrix.entry)) (length matrix.entry.col_idx.now) column_masks.old }
+    ensures scratch_starts { starts.new ≡ scratch (check_build matrix.entry row_word_ptr.old row_word_indices.old row_masks.old column_word_ptr.old column_word_indices.old column_masks.old starts.old order.old) (matrix.entry.ncols + 1) starts.old }
+    ensures scratch_order { order.new ≡ scratch (check_build matrix.entry row_word_ptr.old row_word_indices.old row_masks.old column_word_ptr.old column_word_indices.old column_masks.old starts.old order.old) (length matrix.entry.col_idx.now) order.old }
 {
     check_build(
-        nrows,
-        ncols,
-        row_ptr,
-        col_idx,
-        values,
+        matrix,
         row_word_ptr,
         row_word_indices,
         row_masks,
@@ -133,10 +128,12 @@ pub fn from_csr32(
         order,
     )?;
     Ok(inner::build(
-        nrows,
-        ncols,
-        row_ptr,
-        col_idx,
+        Matrix {
+            nrows: matrix.nrows,
+            ncols: matrix.ncols,
+            row_ptr: matrix.row_ptr,
+            col_idx: matrix.col_idx,
+        },
         row_word_ptr,
         row_word_indices,
         row_masks,
@@ -148,524 +145,112 @@ pub fn from_csr32(
     ))
 }
 
-pub fn validate(
-    nrows: usize,
-    ncols: usize,
-    row_word_ptr: &[u32],
-    row_word_indices: &[u32],
-    row_masks: &[u64],
-    structural_nnz: usize,
-    column_nrows: usize,
-    column_ncols: usize,
-    column_word_ptr: &[u32],
-    column_word_indices: &[u32],
-    column_masks: &[u64],
-    column_structural_nnz: usize,
-) -> Result<(), Refusal>
-    ensures { result ≡ topology_check nrows ncols row_word_ptr.now row_word_indices.now row_masks.now structural_nnz column_nrows column_ncols column_word_ptr.now column_word_indices.now column_masks.now column_structural_nnz }
-{
-    side::inner::check_limits(nrows, ncols, row_word_indices, row_masks, structural_nnz)?;
-    side::inner::check_limits(
-        column_nrows,
-        column_ncols,
-        column_word_indices,
-        column_masks,
-        column_structural_nnz,
-    )?;
-    let fault = inner::fault(
-        nrows,
-        ncols,
-        row_word_ptr,
-        row_word_indices,
-        row_masks,
-        structural_nnz,
-        column_nrows,
-        column_ncols,
-        column_word_ptr,
-        column_word_indices,
-        column_masks,
-        column_structural_nnz,
-    );
-    fault.check()
-}
+impl<'a> AbtmDualTopology<'a> {
+    ghost use Rattle.dual_topology.specs.Views.{check_topology, check_row, row, width, FoundRow, SoundTopology};
 
-pub fn stats(
-    nrows: usize,
-    ncols: usize,
-    row_word_ptr: &[u32],
-    row_word_indices: &[u32],
-    row_masks: &[u64],
-    structural_nnz: usize,
-    column_nrows: usize,
-    column_ncols: usize,
-    column_word_ptr: &[u32],
-    column_word_indices: &[u32],
-    column_masks: &[u64],
-    column_structural_nnz: usize,
-) -> Result<AbtmDualTopologyStats, Refusal>
-    ensures { result ≡ stats_answer (topology_check nrows ncols row_word_ptr.now row_word_indices.now row_masks.now structural_nnz column_nrows column_ncols column_word_ptr.now column_word_indices.now column_masks.now column_structural_nnz) (stats_of nrows ncols row_word_ptr.now row_word_indices.now row_masks.now structural_nnz column_word_ptr.now column_word_indices.now column_masks.now) }
-{
-    validate(
-        nrows,
-        ncols,
-        row_word_ptr,
-        row_word_indices,
-        row_masks,
-        structural_nnz,
-        column_nrows,
-        column_ncols,
-        column_word_ptr,
-        column_word_indices,
-        column_masks,
-        column_structural_nnz,
-    )?;
-    Ok(AbtmDualTopologyStats {
-        nrows: nrows as u32,
-        ncols: ncols as u32,
-        structural_nnz: structural_nnz as u32,
-        row_metadata_bytes: (4 * row_word_ptr.len()
-            + 4 * row_word_indices.len()
-            + 8 * row_masks.len()) as u32,
-        column_metadata_bytes: (4 * column_word_ptr.len()
-            + 4 * column_word_indices.len()
-            + 8 * column_masks.len()) as u32,
-    })
-}
-
-fn rows_of(of: RowOf, nrows: usize, ncols: usize) -> usize
-    ensures { result ≡ rows_of of nrows ncols }
-{
-    match of {
-        RowOf::Rows => nrows,
-        RowOf::Columns => ncols,
+    pub fn validate(self) -> Result<(), Refusal>
+        ensures value { result ≡ check_topology self.entry }
+        ensures accepted { IfOk result (λ t. SoundTopology self.entry) }
+    {
+        self.rows.check_limits()?;
+        self.columns.check_limits()?;
+        self.fault().check()
     }
-}
 
-fn width_of(of: RowOf, nrows: usize, ncols: usize) -> usize
-    ensures { result ≡ width_of of nrows ncols }
-{
-    match of {
-        RowOf::Rows => ncols,
-        RowOf::Columns => nrows,
+    pub fn stats(self) -> Result<AbtmDualTopologyStats, Refusal>
+        ensures { result ≡ stats_answer (check_topology self.entry) (stats_of self.entry.rows.nrows self.entry.rows.ncols self.entry.rows.row_word_ptr.now self.entry.rows.word_indices.now self.entry.rows.masks.now self.entry.rows.structural_nnz self.entry.columns.row_word_ptr.now self.entry.columns.word_indices.now self.entry.columns.masks.now) }
+    {
+        self.validate()?;
+        let rows = self.rows;
+        let columns = self.columns;
+        Ok(AbtmDualTopologyStats {
+            nrows: rows.nrows as u32,
+            ncols: rows.ncols as u32,
+            structural_nnz: rows.structural_nnz as u32,
+            row_metadata_bytes: (4 * rows.row_word_ptr.len()
+                + 4 * rows.word_indices.len()
+                + 8 * rows.masks.len()) as u32,
+            column_metadata_bytes: (4 * columns.row_word_ptr.len()
+                + 4 * columns.word_indices.len()
+                + 8 * columns.masks.len()) as u32,
+        })
     }
-}
 
-// The topology, then the row's number.
-fn check_row(
-    nrows: usize,
-    ncols: usize,
-    row_word_ptr: &[u32],
-    row_word_indices: &[u32],
-    row_masks: &[u64],
-    structural_nnz: usize,
-    column_nrows: usize,
-    column_ncols: usize,
-    column_word_ptr: &[u32],
-    column_word_indices: &[u32],
-    column_masks: &[u64],
-    column_structural_nnz: usize,
-    of: RowOf,
-    number: u64,
-) -> Result<(), Refusal>
-    ensures { result ≡ row_check (topology_check nrows ncols row_word_ptr.now row_word_indices.now row_masks.now structural_nnz column_nrows column_ncols column_word_ptr.now column_word_indices.now column_masks.now column_structural_nnz) number (rows_of of nrows ncols) }
-{
-    validate(
-        nrows,
-        ncols,
-        row_word_ptr,
-        row_word_indices,
-        row_masks,
-        structural_nnz,
-        column_nrows,
-        column_ncols,
-        column_word_ptr,
-        column_word_indices,
-        column_masks,
-        column_structural_nnz,
-    )?;
-    if number >= rows_of(of, nrows, ncols) as u64 {
-        return Err(Refusal::OutOfRange);
+    // The topology, then the row's number: the side that the row is one of.
+    fn side_of(self, of: RowOf, number: u64) -> Result<Side<'a>, Refusal>
+        ensures refused { IfErr result (λ e. check_row self.entry of number ≡ Err e) }
+        ensures found { IfOk result (λ s. FoundRow self.entry of number s) }
+    {
+        self.validate()?;
+        let side = match of {
+            RowOf::Rows => self.rows,
+            RowOf::Columns => self.columns,
+        };
+        if number >= side.nrows as u64 {
+            return Err(Refusal::OutOfRange);
+        }
+        Ok(Side {
+            nrows: side.nrows,
+            ncols: side.ncols,
+            row_word_ptr: side.row_word_ptr,
+            word_indices: side.word_indices,
+            masks: side.masks,
+        })
     }
-    Ok(())
-}
 
-// How many stored words the row has.
-pub fn row_words(
-    nrows: usize,
-    ncols: usize,
-    row_word_ptr: &[u32],
-    row_word_indices: &[u32],
-    row_masks: &[u64],
-    structural_nnz: usize,
-    column_nrows: usize,
-    column_ncols: usize,
-    column_word_ptr: &[u32],
-    column_word_indices: &[u32],
-    column_masks: &[u64],
-    column_structural_nnz: usize,
-    of: RowOf,
-    number: u64,
-) -> Result<u64, Refusal>
-    ensures { result ≡ row_words_answer (row_check (topology_check nrows ncols row_word_ptr.now row_word_indices.now row_masks.now structural_nnz column_nrows column_ncols column_word_ptr.now column_word_indices.now column_masks.now column_structural_nnz) number (rows_of of nrows ncols)) (width_of of nrows ncols) (row_set of (side_holds row_word_ptr.now row_word_indices.now row_masks.now) number) }
-{
-    check_row(
-        nrows,
-        ncols,
-        row_word_ptr,
-        row_word_indices,
-        row_masks,
-        structural_nnz,
-        column_nrows,
-        column_ncols,
-        column_word_ptr,
-        column_word_indices,
-        column_masks,
-        column_structural_nnz,
-        of,
-        number,
-    )?;
-    match of {
-        RowOf::Rows => {
-            let x = side::inner::row_words(
-                nrows,
-                ncols,
-                row_word_ptr,
-                row_word_indices,
-                row_masks,
-                number as usize,
-            );
-            Ok(x)
-        }
-        RowOf::Columns => {
-            let x = side::inner::row_words(
-                ncols,
-                nrows,
-                column_word_ptr,
-                column_word_indices,
-                column_masks,
-                number as usize,
-            );
-            Ok(x)
-        }
+    // How many stored words the row has.
+    pub fn row_words(self, of: RowOf, number: u64) -> Result<u64, Refusal>
+        ensures { result ≡ row_words_answer (check_row self.entry of number) (width self.entry of) (row self.entry of number) }
+    {
+        let side = self.side_of(of, number)?;
+        Ok(side.row_words(number as usize))
     }
-}
 
-// How many columns the row has.
-pub fn row_popcount(
-    nrows: usize,
-    ncols: usize,
-    row_word_ptr: &[u32],
-    row_word_indices: &[u32],
-    row_masks: &[u64],
-    structural_nnz: usize,
-    column_nrows: usize,
-    column_ncols: usize,
-    column_word_ptr: &[u32],
-    column_word_indices: &[u32],
-    column_masks: &[u64],
-    column_structural_nnz: usize,
-    of: RowOf,
-    number: u64,
-) -> Result<u64, Refusal>
-    ensures { result ≡ row_popcount_answer (row_check (topology_check nrows ncols row_word_ptr.now row_word_indices.now row_masks.now structural_nnz column_nrows column_ncols column_word_ptr.now column_word_indices.now column_masks.now column_structural_nnz) number (rows_of of nrows ncols)) (width_of of nrows ncols) (row_set of (side_holds row_word_ptr.now row_word_indices.now row_masks.now) number) }
-{
-    check_row(
-        nrows,
-        ncols,
-        row_word_ptr,
-        row_word_indices,
-        row_masks,
-        structural_nnz,
-        column_nrows,
-        column_ncols,
-        column_word_ptr,
-        column_word_indices,
-        column_masks,
-        column_structural_nnz,
-        of,
-        number,
-    )?;
-    match of {
-        RowOf::Rows => {
-            let x = side::inner::row_popcount(
-                nrows,
-                ncols,
-                row_word_ptr,
-                row_word_indices,
-                row_masks,
-                number as usize,
-            );
-            Ok(x)
-        }
-        RowOf::Columns => {
-            let x = side::inner::row_popcount(
-                ncols,
-                nrows,
-                column_word_ptr,
-                column_word_indices,
-                column_masks,
-                number as usize,
-            );
-            Ok(x)
-        }
+    // How many columns the row has.
+    pub fn row_popcount(self, of: RowOf, number: u64) -> Result<u64, Refusal>
+        ensures { result ≡ row_popcount_answer (check_row self.entry of number) (width self.entry of) (row self.entry of number) }
+    {
+        let side = self.side_of(of, number)?;
+        Ok(side.row_popcount(number as usize))
     }
-}
 
-// Whether the row has the column; past the end it has none.
-pub fn row_contains(
-    nrows: usize,
-    ncols: usize,
-    row_word_ptr: &[u32],
-    row_word_indices: &[u32],
-    row_masks: &[u64],
-    structural_nnz: usize,
-    column_nrows: usize,
-    column_ncols: usize,
-    column_word_ptr: &[u32],
-    column_word_indices: &[u32],
-    column_masks: &[u64],
-    column_structural_nnz: usize,
-    of: RowOf,
-    number: u64,
-    col: u64,
-) -> Result<bool, Refusal>
-    ensures { result ≡ row_contains_answer (row_check (topology_check nrows ncols row_word_ptr.now row_word_indices.now row_masks.now structural_nnz column_nrows column_ncols column_word_ptr.now column_word_indices.now column_masks.now column_structural_nnz) number (rows_of of nrows ncols)) (width_of of nrows ncols) (row_set of (side_holds row_word_ptr.now row_word_indices.now row_masks.now) number) col }
-{
-    check_row(
-        nrows,
-        ncols,
-        row_word_ptr,
-        row_word_indices,
-        row_masks,
-        structural_nnz,
-        column_nrows,
-        column_ncols,
-        column_word_ptr,
-        column_word_indices,
-        column_masks,
-        column_structural_nnz,
-        of,
-        number,
-    )?;
-    match of {
-        RowOf::Rows => {
-            let x = side::inner::row_contains(
-                nrows,
-                ncols,
-                row_word_ptr,
-                row_word_indices,
-                row_masks,
-                number as usize,
-                col,
-            );
-            Ok(x)
-        }
-        RowOf::Columns => {
-            let x = side::inner::row_contains(
-                ncols,
-                nrows,
-                column_word_ptr,
-                column_word_indices,
-                column_masks,
-                number as usize,
-                col,
-            );
-            Ok(x)
-        }
+    // Whether the row has the column; past the end the answer is no.
+    pub fn row_contains(self, of: RowOf, number: u64, col: u64) -> Result<bool, Refusal>
+        ensures { result ≡ row_contains_answer (check_row self.entry of number) (width self.entry of) (row self.entry of number) col }
+    {
+        let side = self.side_of(of, number)?;
+        Ok(side.row_contains(number as usize, col))
     }
-}
 
-// How many columns of the row lie below `col`, which may be the end.
-pub fn row_rank(
-    nrows: usize,
-    ncols: usize,
-    row_word_ptr: &[u32],
-    row_word_indices: &[u32],
-    row_masks: &[u64],
-    structural_nnz: usize,
-    column_nrows: usize,
-    column_ncols: usize,
-    column_word_ptr: &[u32],
-    column_word_indices: &[u32],
-    column_masks: &[u64],
-    column_structural_nnz: usize,
-    of: RowOf,
-    number: u64,
-    col: u64,
-) -> Result<u64, Refusal>
-    ensures { result ≡ row_rank_answer (row_check (topology_check nrows ncols row_word_ptr.now row_word_indices.now row_masks.now structural_nnz column_nrows column_ncols column_word_ptr.now column_word_indices.now column_masks.now column_structural_nnz) number (rows_of of nrows ncols)) (width_of of nrows ncols) (row_set of (side_holds row_word_ptr.now row_word_indices.now row_masks.now) number) col }
-{
-    check_row(
-        nrows,
-        ncols,
-        row_word_ptr,
-        row_word_indices,
-        row_masks,
-        structural_nnz,
-        column_nrows,
-        column_ncols,
-        column_word_ptr,
-        column_word_indices,
-        column_masks,
-        column_structural_nnz,
-        of,
-        number,
-    )?;
-    if col > width_of(of, nrows, ncols) as u64 {
-        return Err(Refusal::OutOfRange);
-    }
-    match of {
-        RowOf::Rows => {
-            let x = side::inner::row_rank(
-                nrows,
-                ncols,
-                row_word_ptr,
-                row_word_indices,
-                row_masks,
-                number as usize,
-                col as usize,
-            );
-            Ok(x)
+    // How many columns of the row lie below `col`, which may be the end.
+    pub fn row_rank(self, of: RowOf, number: u64, col: u64) -> Result<u64, Refusal>
+        ensures { result ≡ row_rank_answer (check_row self.entry of number) (width self.entry of) (row self.entry of number) col }
+    {
+        let side = self.side_of(of, number)?;
+        if col > side.ncols as u64 {
+            return Err(Refusal::OutOfRange);
         }
-        RowOf::Columns => {
-            let x = side::inner::row_rank(
-                ncols,
-                nrows,
-                column_word_ptr,
-                column_word_indices,
-                column_masks,
-                number as usize,
-                col as usize,
-            );
-            Ok(x)
-        }
+        Ok(side.row_rank(number as usize, col as usize))
     }
-}
 
-// The row's column with that ordinal, from 0, or none.
-pub fn row_select(
-    nrows: usize,
-    ncols: usize,
-    row_word_ptr: &[u32],
-    row_word_indices: &[u32],
-    row_masks: &[u64],
-    structural_nnz: usize,
-    column_nrows: usize,
-    column_ncols: usize,
-    column_word_ptr: &[u32],
-    column_word_indices: &[u32],
-    column_masks: &[u64],
-    column_structural_nnz: usize,
-    of: RowOf,
-    number: u64,
-    ordinal: u64,
-) -> Result<Option<usize>, Refusal>
-    ensures { result ≡ row_select_answer (row_check (topology_check nrows ncols row_word_ptr.now row_word_indices.now row_masks.now structural_nnz column_nrows column_ncols column_word_ptr.now column_word_indices.now column_masks.now column_structural_nnz) number (rows_of of nrows ncols)) (width_of of nrows ncols) (row_set of (side_holds row_word_ptr.now row_word_indices.now row_masks.now) number) ordinal }
-{
-    check_row(
-        nrows,
-        ncols,
-        row_word_ptr,
-        row_word_indices,
-        row_masks,
-        structural_nnz,
-        column_nrows,
-        column_ncols,
-        column_word_ptr,
-        column_word_indices,
-        column_masks,
-        column_structural_nnz,
-        of,
-        number,
-    )?;
-    match of {
-        RowOf::Rows => {
-            let x = side::inner::row_select(
-                nrows,
-                ncols,
-                row_word_ptr,
-                row_word_indices,
-                row_masks,
-                number as usize,
-                ordinal,
-            );
-            Ok(x)
-        }
-        RowOf::Columns => {
-            let x = side::inner::row_select(
-                ncols,
-                nrows,
-                column_word_ptr,
-                column_word_indices,
-                column_masks,
-                number as usize,
-                ordinal,
-            );
-            Ok(x)
-        }
+    // The row's column with that ordinal, from 0, or none.
+    pub fn row_select(self, of: RowOf, number: u64, ordinal: u64) -> Result<Option<usize>, Refusal>
+        ensures { result ≡ row_select_answer (check_row self.entry of number) (width self.entry of) (row self.entry of number) ordinal }
+    {
+        let side = self.side_of(of, number)?;
+        Ok(side.row_select(number as usize, ordinal))
     }
-}
 
-// The row's stored word k, from 0, or none: what the Rust's `words()` yields.
-pub fn row_word(
-    nrows: usize,
-    ncols: usize,
-    row_word_ptr: &[u32],
-    row_word_indices: &[u32],
-    row_masks: &[u64],
-    structural_nnz: usize,
-    column_nrows: usize,
-    column_ncols: usize,
-    column_word_ptr: &[u32],
-    column_word_indices: &[u32],
-    column_masks: &[u64],
-    column_structural_nnz: usize,
-    of: RowOf,
-    number: u64,
-    k: u64,
-) -> Result<Option<AbtmTopologyWord>, Refusal>
-    ensures { result ≡ row_word_answer (row_check (topology_check nrows ncols row_word_ptr.now row_word_indices.now row_masks.now structural_nnz column_nrows column_ncols column_word_ptr.now column_word_indices.now column_masks.now column_structural_nnz) number (rows_of of nrows ncols)) (width_of of nrows ncols) (row_set of (side_holds row_word_ptr.now row_word_indices.now row_masks.now) number) k }
-{
-    check_row(
-        nrows,
-        ncols,
-        row_word_ptr,
-        row_word_indices,
-        row_masks,
-        structural_nnz,
-        column_nrows,
-        column_ncols,
-        column_word_ptr,
-        column_word_indices,
-        column_masks,
-        column_structural_nnz,
-        of,
-        number,
-    )?;
-    match of {
-        RowOf::Rows => {
-            let x = side::inner::row_word(
-                nrows,
-                ncols,
-                row_word_ptr,
-                row_word_indices,
-                row_masks,
-                number as usize,
-                k,
-            );
-            Ok(x)
-        }
-        RowOf::Columns => {
-            let x = side::inner::row_word(
-                ncols,
-                nrows,
-                column_word_ptr,
-                column_word_indices,
-                column_masks,
-                number as usize,
-                k,
-            );
-            Ok(x)
-        }
+    // The row's stored word k, from 0, or none: what the Rust's `words()` yields.
+    pub fn row_word(
+        self,
+        of: RowOf,
+        number: u64,
+        k: u64,
+    ) -> Result<Option<AbtmTopologyWord>, Refusal>
+        ensures { result ≡ row_word_answer (check_row self.entry of number) (width self.entry of) (row self.entry of number) k }
+    {
+        let side = self.side_of(of, number)?;
+        Ok(side.row_word(number as usize, k))
     }
 }

@@ -4,7 +4,7 @@ use Rattle.std.specs.Prelude.{Result}
 use Rattle.base.specs.Checks.{Check, answer}
 use Rattle.base.specs.declared.Refusal.{Refusal}
 use Rattle.base.specs.declared.Refusal.TheVariants.{ListTooShort}
-use Rattle.base.specs.Checks.{must, ◌then◌, after, leaves}
+use Rattle.base.specs.Checks.{must, ◌then◌, leaves}
 use Rattle.base.specs.Lists.{over}
 use Rattle.mask.specs.Mask.{in_mask, words_needed, mask_words, length_check}
 use Rattle.dof_layout.specs.Layout.{total_of, block_of, layout_check}

@@ -3,7 +3,7 @@ use Rattle.std.specs.Prelude.{List, ℕ, length}
 use Rattle.std.specs.Prelude.{Result}
 use Rattle.base.specs.Checks.{Check, answer}
 use Rattle.base.specs.declared.Refusal.{Refusal}
-use Rattle.base.specs.Checks.{◌then◌, after}
+use Rattle.base.specs.Checks.{◌then◌}
 use Rattle.base.specs.Sets.{count_below}
 use Rattle.mask.specs.Mask.{in_mask, length_check}
 use Rattle.graph.specs.Network.{Network, block_within, in_region, visited, hops_made}

@@ -1,3 +1,4 @@
 pub mod Closure
 pub mod Owners
 pub mod Growth
+pub mod Views

@@ -4,7 +4,7 @@ use Rattle.std.specs.Prelude.{Result}
 use Rattle.base.specs.Checks.{Check, answer}
 use Rattle.base.specs.declared.Refusal.{Refusal}
 use Rattle.base.specs.declared.Refusal.TheVariants.{NoRanks, OwnerOutOfRange, OwnersDiffer, ListTooShort}
-use Rattle.base.specs.Checks.{must, must_be, ◌then◌, checks_below, after, leaves}
+use Rattle.base.specs.Checks.{must, must_be, ◌then◌, checks_below, leaves}
 use Rattle.base.specs.Lists.{list_from, over}
 use Rattle.base.specs.Sets.{every_below}
 use Rattle.dof_layout.specs.Layout.{start_of, total_of, layout_check}

@@ -1,20 +1,26 @@
 // Regions of whole field blocks, field_region.rs of the Rust: closing a mask to blocks, growth that closes before the first hop and after
 // every hop, and the owner of each block.
-#![tactic(auto)]
+#![tactic(auto, using(dof_layout::proofs::Layouts::views))]
 
-ghost use Rattle.std.specs.Prelude.{◌≡◌};
-ghost use Rattle.side.specs.Side.{side_holds};
-ghost use Rattle.dof_layout.specs.Layout.{total_of};
-ghost use Rattle.dof_layout.specs.Answers.{square_check};
-ghost use Rattle.dual_topology.specs.Check.{topology_check};
-ghost use Rattle.graph.specs.Network.{field_network};
+ghost use Rattle.std.specs.Prelude.{◌≡◌, IfOk};
+ghost use Rattle.dof_layout.specs.Views.{total};
 ghost use Rattle.growth.specs.Lent.{region_left, frontier_left, scratch_left};
-ghost use Rattle.field_region.specs.Growth.{field_grow_check, field_grow_answer};
-ghost use Rattle.field_region.specs.Closure.{close_check, close_answer, close_words};
-ghost use Rattle.field_region.specs.Owners.{owners_check, owners_answer, owners_list};
+ghost use Rattle.field_region.specs.Growth.{field_grow_answer};
+ghost use Rattle.field_region.specs.Closure.{close_answer, close_words};
+ghost use Rattle.field_region.specs.Owners.{owners_answer, owners_list};
+ghost use Rattle.field_region.specs.Views.{check_closing, check_owning, check_field_grow, blocked, Closable, FieldGrowable};
 
 use base::Refusal;
+use dof_layout::FieldAwareDofLayout;
+use dof_layout::inner::Layout;
+use dual_topology::AbtmDualTopology;
+use dual_topology::inner::Topology;
 use growth::Grown;
+use growth::inner::Graph;
+use inner::FieldGraph;
+use mask::DofMask;
+use mask::inner::Mask;
+use side::inner::Side;
 
 pub mod inner;
 
@@ -40,22 +46,18 @@ pub struct BlocksGrown {
 }
 
 // The layout, the mask, the length of the list.
-fn check_close(
-    entity_kinds: &[u8],
-    entity_ids: &[u64],
-    field_ids: &[u32],
-    components: &[u32],
-    offsets: &[u64],
-    len: usize,
-    words: &[u64],
-    out: &[u64],
-) -> Result<(), Refusal>
-    ensures { result ≡ close_check entity_kinds.now entity_ids.now field_ids.now components.now offsets.now len words.now out.now }
+#[tactic(auto, using(base::proofs::Checks::checks, dof_layout::proofs::Layouts::views), unfolding(crate::specs::Closure::close_check))]
+fn check_close(layout: FieldAwareDofLayout, mask: DofMask, out: &[u64]) -> Result<(), Refusal>
+    ensures value { result ≡ check_closing layout.entry mask.entry out.now }
+    ensures accepted { IfOk result (λ t. Closable layout.entry mask.entry out.now) }
 {
-    dof_layout::check(entity_kinds, entity_ids, field_ids, components, offsets)?;
-    let total = offsets[components.len()] as usize;
-    mask::inner::check_length(total, len, words)?;
-    if mask::inner::words_for(total) > out.len() {
+    layout.check()?;
+    let blocks = Layout {
+        components: layout.blocks.components,
+        offsets: layout.offsets,
+    };
+    mask::inner::check_length(blocks.total(), mask.len, mask.words)?;
+    if mask::inner::words_for(mask.len) > out.len() {
         return Err(Refusal::ListTooShort);
     }
     Ok(())
@@ -63,201 +65,137 @@ fn check_close(
 
 // Each block with a selected node is taken whole.
 pub fn close_to_field_blocks(
-    entity_kinds: &[u8],
-    entity_ids: &[u64],
-    field_ids: &[u32],
-    components: &[u32],
-    offsets: &[u64],
-    len: usize,
-    words: &[u64],
+    layout: FieldAwareDofLayout,
+    mask: DofMask,
     out: &mut [u64],
 ) -> Result<u64, Refusal>
-    ensures value { result ≡ close_answer (close_check entity_kinds.now entity_ids.now field_ids.now components.now offsets.now len words.now out.old) len }
-    ensures out_after { out.new ≡ close_words (close_check entity_kinds.now entity_ids.now field_ids.now components.now offsets.now len words.now out.old) components.now words.now out.old }
+    ensures value { result ≡ close_answer (check_closing layout.entry mask.entry out.old) mask.entry.len }
+    ensures out_after { out.new ≡ close_words (check_closing layout.entry mask.entry out.old) layout.entry.blocks.components.now mask.entry.words.now out.old }
 {
-    check_close(
-        entity_kinds,
-        entity_ids,
-        field_ids,
-        components,
-        offsets,
-        len,
-        words,
-        out,
-    )?;
-    let need = mask::inner::words_for(len);
-    inner::close(components, offsets, words, &mut out[..need]);
-    Ok(len as u64)
+    check_close(layout, mask, out)?;
+    let need = mask::inner::words_for(mask.len);
+    inner::close(
+        Layout {
+            components: layout.blocks.components,
+            offsets: layout.offsets,
+        },
+        Mask {
+            len: mask.len,
+            words: mask.words,
+        },
+        &mut out[..need],
+    );
+    Ok(mask.len as u64)
 }
 
 // The layout, then what its owners must be.
+#[tactic(auto, using(base::proofs::Checks::checks, dof_layout::proofs::Layouts::views), unfolding(crate::specs::Owners::owners_check))]
 fn check_owners(
-    entity_kinds: &[u8],
-    entity_ids: &[u64],
-    field_ids: &[u32],
-    components: &[u32],
-    offsets: &[u64],
+    layout: FieldAwareDofLayout,
     dof_owners: &[u32],
     ranks: u32,
     out: &[u32],
 ) -> Result<(), Refusal>
-    ensures { result ≡ owners_check entity_kinds.now entity_ids.now field_ids.now components.now offsets.now dof_owners.now ranks out.now }
+    ensures { result ≡ check_owning layout.entry dof_owners.now ranks out.now }
 {
-    dof_layout::check(entity_kinds, entity_ids, field_ids, components, offsets)?;
-    inner::check_owned(components, offsets, dof_owners, ranks, out.len())
+    layout.check()?;
+    inner::check_owned(
+        Layout {
+            components: layout.blocks.components,
+            offsets: layout.offsets,
+        },
+        dof_owners,
+        ranks,
+        out.len(),
+    )
 }
 
 // The owner of each block, which all its nodes have.
 pub fn field_block_owners(
-    entity_kinds: &[u8],
-    entity_ids: &[u64],
-    field_ids: &[u32],
-    components: &[u32],
-    offsets: &[u64],
+    layout: FieldAwareDofLayout,
     dof_owners: &[u32],
     ranks: u32,
     out: &mut [u32],
 ) -> Result<u64, Refusal>
-    ensures value { result ≡ owners_answer (owners_check entity_kinds.now entity_ids.now field_ids.now components.now offsets.now dof_owners.now ranks out.old) components.now }
-    ensures out_after { out.new ≡ owners_list (owners_check entity_kinds.now entity_ids.now field_ids.now components.now offsets.now dof_owners.now ranks out.old) components.now dof_owners.now out.old }
+    ensures value { result ≡ owners_answer (check_owning layout.entry dof_owners.now ranks out.old) layout.entry.blocks.components.now }
+    ensures out_after { out.new ≡ owners_list (check_owning layout.entry dof_owners.now ranks out.old) layout.entry.blocks.components.now dof_owners.now out.old }
 {
-    check_owners(
-        entity_kinds,
-        entity_ids,
-        field_ids,
-        components,
-        offsets,
+    check_owners(layout, dof_owners, ranks, out)?;
+    inner::write_owners(
+        Layout {
+            components: layout.blocks.components,
+            offsets: layout.offsets,
+        },
         dof_owners,
-        ranks,
         out,
-    )?;
-    inner::write_owners(components, offsets, dof_owners, out);
-    Ok(components.len() as u64)
+    );
+    Ok(layout.blocks.components.len() as u64)
 }
 
 // The topology, the layout against it, the mask, the lengths of the lists.
+#[tactic(auto, using(base::proofs::Checks::checks), unfolding(crate::specs::Growth::field_grow_check))]
 fn check_growth(
-    nrows: usize,
-    ncols: usize,
-    row_word_ptr: &[u32],
-    row_word_indices: &[u32],
-    row_masks: &[u64],
-    structural_nnz: usize,
-    column_nrows: usize,
-    column_ncols: usize,
-    column_word_ptr: &[u32],
-    column_word_indices: &[u32],
-    column_masks: &[u64],
-    column_structural_nnz: usize,
-    entity_kinds: &[u8],
-    entity_ids: &[u64],
-    field_ids: &[u32],
-    components: &[u32],
-    offsets: &[u64],
-    len: usize,
-    words: &[u64],
+    topology: AbtmDualTopology,
+    layout: FieldAwareDofLayout,
+    mask: DofMask,
     region: &[u64],
     frontier: &[u64],
     scratch: &[u64],
 ) -> Result<(), Refusal>
-    ensures { result ≡ field_grow_check (topology_check nrows ncols row_word_ptr.now row_word_indices.now row_masks.now structural_nnz column_nrows column_ncols column_word_ptr.now column_word_indices.now column_masks.now column_structural_nnz) (square_check entity_kinds.now entity_ids.now field_ids.now components.now offsets.now nrows ncols) (total_of components.now) len words.now region.now frontier.now scratch.now }
+    ensures value { result ≡ check_field_grow topology.entry layout.entry mask.entry region.now frontier.now scratch.now }
+    ensures accepted { IfOk result (λ t. FieldGrowable topology.entry layout.entry mask.entry region.now frontier.now scratch.now) }
 {
-    dual_topology::validate(
-        nrows,
-        ncols,
-        row_word_ptr,
-        row_word_indices,
-        row_masks,
-        structural_nnz,
-        column_nrows,
-        column_ncols,
-        column_word_ptr,
-        column_word_indices,
-        column_masks,
-        column_structural_nnz,
-    )?;
-    dof_layout::validate_square_matrix_size(
-        entity_kinds,
-        entity_ids,
-        field_ids,
-        components,
-        offsets,
-        nrows,
-        ncols,
-    )?;
-    mask::inner::check_length(nrows, len, words)?;
-    growth::inner::check_room(nrows, region.len(), frontier.len(), scratch.len())
+    topology.validate()?;
+    layout.validate_square_matrix_size(topology.rows.nrows, topology.rows.ncols)?;
+    let n = topology.rows.nrows;
+    mask::inner::check_length(n, mask.len, mask.words)?;
+    growth::inner::check_room(n, region.len(), frontier.len(), scratch.len())
 }
 
-// The whole blocks within `hops` links of the mask's blocks, and those at exactly so many. The lists take a mask each; `scratch` is left zero.
-pub fn grow_field_aware_region(
-    nrows: usize,
-    ncols: usize,
-    row_word_ptr: &[u32],
-    row_word_indices: &[u32],
-    row_masks: &[u64],
-    structural_nnz: usize,
-    column_nrows: usize,
-    column_ncols: usize,
-    column_word_ptr: &[u32],
-    column_word_indices: &[u32],
-    column_masks: &[u64],
-    column_structural_nnz: usize,
-    entity_kinds: &[u8],
-    entity_ids: &[u64],
-    field_ids: &[u32],
-    components: &[u32],
-    offsets: &[u64],
-    len: usize,
-    words: &[u64],
+// The whole blocks within `hops` links of the mask's blocks, and those at exactly so many. The lists take a mask each; `scratch` is left zero. They
+// are written, each with an equation of its own, and so handed in one by one.
+pub fn grow_field_aware_region<'a>(
+    topology: AbtmDualTopology<'a>,
+    layout: FieldAwareDofLayout<'a>,
+    mask: DofMask,
     hops: u64,
     region: &mut [u64],
     frontier: &mut [u64],
     scratch: &mut [u64],
 ) -> Result<FieldAwareRegionStats, Refusal>
-    ensures value { result ≡ field_grow_answer (field_grow_check (topology_check nrows ncols row_word_ptr.now row_word_indices.now row_masks.now structural_nnz column_nrows column_ncols column_word_ptr.now column_word_indices.now column_masks.now column_structural_nnz) (square_check entity_kinds.now entity_ids.now field_ids.now components.now offsets.now nrows ncols) (total_of components.now) len words.now region.old frontier.old scratch.old) (field_network components.now (side_holds row_word_ptr.now row_word_indices.now row_masks.now)) words.now hops }
-    ensures inside { region.new ≡ region_left (field_grow_check (topology_check nrows ncols row_word_ptr.now row_word_indices.now row_masks.now structural_nnz column_nrows column_ncols column_word_ptr.now column_word_indices.now column_masks.now column_structural_nnz) (square_check entity_kinds.now entity_ids.now field_ids.now components.now offsets.now nrows ncols) (total_of components.now) len words.now region.old frontier.old scratch.old) (field_network components.now (side_holds row_word_ptr.now row_word_indices.now row_masks.now)) words.now hops region.old }
-    ensures edge { frontier.new ≡ frontier_left (field_grow_check (topology_check nrows ncols row_word_ptr.now row_word_indices.now row_masks.now structural_nnz column_nrows column_ncols column_word_ptr.now column_word_indices.now column_masks.now column_structural_nnz) (square_check entity_kinds.now entity_ids.now field_ids.now components.now offsets.now nrows ncols) (total_of components.now) len words.now region.old frontier.old scratch.old) (field_network components.now (side_holds row_word_ptr.now row_word_indices.now row_masks.now)) words.now hops frontier.old }
-    ensures spent { scratch.new ≡ scratch_left (field_grow_check (topology_check nrows ncols row_word_ptr.now row_word_indices.now row_masks.now structural_nnz column_nrows column_ncols column_word_ptr.now column_word_indices.now column_masks.now column_structural_nnz) (square_check entity_kinds.now entity_ids.now field_ids.now components.now offsets.now nrows ncols) (total_of components.now) len words.now region.old frontier.old scratch.old) (total_of components.now) scratch.old }
+    ensures value { result ≡ field_grow_answer (check_field_grow topology.entry layout.entry mask.entry region.old frontier.old scratch.old) (blocked topology.entry layout.entry) mask.entry.words.now hops }
+    ensures inside { region.new ≡ region_left (check_field_grow topology.entry layout.entry mask.entry region.old frontier.old scratch.old) (blocked topology.entry layout.entry) mask.entry.words.now hops region.old }
+    ensures edge { frontier.new ≡ frontier_left (check_field_grow topology.entry layout.entry mask.entry region.old frontier.old scratch.old) (blocked topology.entry layout.entry) mask.entry.words.now hops frontier.old }
+    ensures spent { scratch.new ≡ scratch_left (check_field_grow topology.entry layout.entry mask.entry region.old frontier.old scratch.old) (total layout.entry) scratch.old }
 {
-    check_growth(
-        nrows,
-        ncols,
-        row_word_ptr,
-        row_word_indices,
-        row_masks,
-        structural_nnz,
-        column_nrows,
-        column_ncols,
-        column_word_ptr,
-        column_word_indices,
-        column_masks,
-        column_structural_nnz,
-        entity_kinds,
-        entity_ids,
-        field_ids,
-        components,
-        offsets,
-        len,
-        words,
-        region,
-        frontier,
-        scratch,
-    )?;
-    Ok(inner::grow(
-        nrows,
-        row_word_ptr,
-        row_word_indices,
-        row_masks,
-        column_word_ptr,
-        column_word_indices,
-        column_masks,
-        components,
-        offsets,
-        words,
-        hops,
-        region,
-        frontier,
-        scratch,
-    ))
+    check_growth(topology, layout, mask, region, frontier, scratch)?;
+    let n = topology.rows.nrows;
+    let graph = Graph {
+        n,
+        topology: Topology {
+            rows: Side {
+                nrows: n,
+                ncols: n,
+                row_word_ptr: topology.rows.row_word_ptr,
+                word_indices: topology.rows.word_indices,
+                masks: topology.rows.masks,
+            },
+            columns: Side {
+                nrows: n,
+                ncols: n,
+                row_word_ptr: topology.columns.row_word_ptr,
+                word_indices: topology.columns.word_indices,
+                masks: topology.columns.masks,
+            },
+        },
+    };
+    let layout = Layout {
+        components: layout.blocks.components,
+        offsets: layout.offsets,
+    };
+    let seeds = Mask {
+        len: n,
+        words: mask.words,
+    };
+    Ok(FieldGraph { graph, layout }.grow(seeds, hops, region, frontier, scratch))
 }

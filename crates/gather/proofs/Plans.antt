@@ -6,8 +6,8 @@ use mathlib.Core.List.{List, [], ◌∷◌, ◌++◌, map}
 use Prim.Native.Nat.{ℕ, zero, suc, ◌+◌, ◌-◌, ◌≤◌, ◌<◌}
 use native.Mathlib.Numerals.{add-one}
 use native.Mathlib.Omega.{arith}
-use borrow.Author.Tests.{leb-true, ltb-true, eqb-true, eq-eqb}
-use lib.Dec.{T, leb, eqb}
+use borrow.Author.Tests.{lt-ltb, leb-true, ltb-true, eqb-true, eq-eqb}
+use lib.Dec.{T, leb, ltb, eqb}
 use lib.ListN.{length, get_or, take, length-append, length-map, get_or-map}
 use Rattle.std.proofs.lemmas.List.{map_more}
 use lib.Seq.{slice, ext_get_or}
@@ -21,6 +21,16 @@ use Rattle.base.proofs.Joins.{join-none, join-next, join-slice}
 use Rattle.csr32.specs.Matrix.{finite}
 use Rattle.gather.specs.Plan.{entry_list, plan_sources, plan_ptr, direct}
 use Rattle.gather.specs.Gather.{plus_zero, total, values_of, sum_of, sources_at, is_one_each, summed, gathered, gather_check}
+
+-- ---- whether a list of pointers is empty
+
+pub not-zero : (n : ℕ) → (n ≡ 0 → ⊥) → ltb 0 n ≡ true
+not-zero n h = let above : 0 < n = omega arith in lt-ltb 0 n above
+
+pub is_zero : (n : ℕ) → n ≡ 0 → ltb 0 n ≡ false
+is_zero n h = ap (ltb 0) h
+
+pub ruleset empties = (not-zero, is_zero)
 
 -- ---- what an accepted check gives
 

@@ -8,7 +8,7 @@ use Rattle.base.specs.declared.Refusal.TheVariants.{OverLimit, NotFinite, ListTo
 use Rattle.std.specs.Float.{nan, fin, binary64}
 use Rattle.std.specs.Float.Ieee.{add}
 use Rattle.std.proofs.Math.Seq.{slice}
-use Rattle.base.specs.Checks.{must, must_be, ◌then◌, after, leaves, entry_limit}
+use Rattle.base.specs.Checks.{must, must_be, ◌then◌, leaves, entry_limit}
 use Rattle.base.specs.Lists.{every, pairwise, rising, below, list_from, over}
 use Rattle.csr32.specs.Matrix.{finite}
 

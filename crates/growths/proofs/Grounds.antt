@@ -9,12 +9,14 @@ use native.Mathlib.Omega.{arith}
 use borrow.Author.Tests.{eq-eqb}
 use lib.ListN.{length}
 use Rattle.base.specs.Checks.{side_limit}
-use Rattle.base.proofs.Checks.{then_next, pass}
+use Rattle.base.proofs.Checks.{then_next, pass, both-passed}
 use Rattle.mask.specs.Mask.{mask_check, length_check}
 use Rattle.mask.proofs.Masks.{mask-accepted, words-accepted}
 use Rattle.dof_layout.specs.Layout.{start_of, total_of, IsLayout}
 use Rattle.dof_layout.specs.Answers.{square_check}
 use Rattle.dof_layout.proofs.Layouts.{start-suc, none-empty}
+use Rattle.side.proofs.Accepted.{limits_passed}
+use Rattle.dual_topology.specs.Check.{topology_check}
 use Rattle.graph.specs.Network.{plain_network, region_words}
 use Rattle.graph.proofs.Networks.{plain-whole, field-whole}
 use Rattle.growth.specs.Lent.{masks_room}
@@ -32,6 +34,12 @@ blocks-le kinds ids fields components offsets l = up (length components) (omega 
     up : (b : ℕ) → b ≤ length components → b ≤ start_of components b
     up zero h = omega arith
     up (suc b) h = omega (arith, up b (omega arith), start-suc components b, none-empty kinds ids fields components l.blocks b (omega arith))
+
+-- an accepted topology has few rows
+pub few-rows : (nrows ncols : ℕ) (ptr idx masks : List ℕ) (pairs nrows2 ncols2 : ℕ) (ptr2 idx2 masks2 : List ℕ) (pairs2 : ℕ)
+    → topology_check nrows ncols ptr idx masks pairs nrows2 ncols2 ptr2 idx2 masks2 pairs2 ≡ Ok tt → nrows ≤ side_limit
+unfolding topology_check
+few-rows nrows ncols ptr idx masks pairs nrows2 ncols2 ptr2 idx2 masks2 pairs2 e = (limits_passed nrows ncols idx masks pairs (both-passed _ _ e).0).few_rows
 
 pub square-solid : (topology : Check) (side cols len : ℕ) (s : ℕ → ℕ → Bool) → topology ≡ Ok tt → side ≡ cols → side ≤ side_limit → len ≡ side
     → Solid side len (record { network = plain_network side s; check = grow_check topology side cols len })

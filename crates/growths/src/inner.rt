@@ -2,19 +2,22 @@
 ghost use Rattle.std.specs.Prelude.{◌≡◌, true, false, ℕ, ◌<◌, min, length};
 ghost use Rattle.base.specs.Checks.{after, leaves};
 ghost use Rattle.mask.specs.Mask.{words_needed, length_check};
-ghost use Rattle.dof_layout.specs.Layout.{total_of};
-ghost use Rattle.dof_layout.specs.Answers.{square_check};
-ghost use Rattle.side.specs.Side.{side_holds};
-ghost use Rattle.dual_topology.specs.Check.{topology_check};
-ghost use Rattle.graph.specs.Network.{plain_network, field_network, region_words};
+ghost use Rattle.dof_layout.specs.Views.{check_square};
+ghost use Rattle.side.specs.Views.{holds};
+ghost use Rattle.dual_topology.specs.Views.{check_topology};
+ghost use Rattle.graph.specs.Network.{region_words};
 ghost use Rattle.growth.specs.Lent.{region_left, frontier_left, scratch_left};
 ghost use Rattle.region.specs.Growth.{grow_check};
-ghost use Rattle.field_region.specs.Growth.{field_grow_check};
+ghost use Rattle.region.specs.Views.{plain};
+ghost use Rattle.field_region.specs.Views.{blocked};
 ghost use Rattle.growths.specs.Runs.{largest, Ground, field_ground};
 ghost use Rattle.growths.specs.Solid.{Solid};
 ghost use Rattle.growths.specs.Counts.{counted_by, ran_of, seeds_after, region_once_grown, frontier_once_grown, scratch_once_grown};
 
 use crate::Ran;
+use dof_layout::FieldAwareDofLayout;
+use dual_topology::AbtmDualTopology;
+use mask::DofMask;
 
 // One accepted growth more. A total past 64 bits stays at the largest.
 fn counted(ran: Ran, hops: u64) -> Ran
@@ -28,7 +31,7 @@ fn counted(ran: Ran, hops: u64) -> Ran
     }
 }
 
-// What grows once: on which network, and by which checks.
+// What grows once: on which network, and by which checks. The three lists that a growth writes are handed in one by one, each with its equation.
 trait Grower {
     ghost shared: { Self → Ground };
 
@@ -51,23 +54,12 @@ trait Grower {
 // Plain growths.
 #[derive(Clone, Copy)]
 struct Plain<'a> {
-    nrows: usize,
-    ncols: usize,
-    row_word_ptr: &'a [u32],
-    row_word_indices: &'a [u32],
-    row_masks: &'a [u64],
-    structural_nnz: usize,
-    column_nrows: usize,
-    column_ncols: usize,
-    column_word_ptr: &'a [u32],
-    column_word_indices: &'a [u32],
-    column_masks: &'a [u64],
-    column_structural_nnz: usize,
+    topology: AbtmDualTopology<'a>,
     len: usize,
 }
 
 impl<'a> Grower for Plain<'a> {
-    ghost shared = { λ g. record { network = plain_network g.nrows (side_holds g.row_word_ptr.now g.row_word_indices.now g.row_masks.now); check = grow_check (topology_check g.nrows g.ncols g.row_word_ptr.now g.row_word_indices.now g.row_masks.now g.structural_nnz g.column_nrows g.column_ncols g.column_word_ptr.now g.column_word_indices.now g.column_masks.now g.column_structural_nnz) g.nrows g.ncols g.len } };
+    ghost shared = { λ g. record { network = plain g.topology; check = grow_check (check_topology g.topology) g.topology.rows.nrows g.topology.rows.ncols g.len } };
 
     fn once(
         &self,
@@ -77,57 +69,24 @@ impl<'a> Grower for Plain<'a> {
         frontier: &mut [u64],
         scratch: &mut [u64],
     ) -> bool {
-        match region::grow_undirected_region(
-            self.nrows,
-            self.ncols,
-            self.row_word_ptr,
-            self.row_word_indices,
-            self.row_masks,
-            self.structural_nnz,
-            self.column_nrows,
-            self.column_ncols,
-            self.column_word_ptr,
-            self.column_word_indices,
-            self.column_masks,
-            self.column_structural_nnz,
-            self.len,
-            seeds,
-            hops,
-            region,
-            frontier,
-            scratch,
-        ) {
-            Err(_) => false,
-            Ok(_) => true,
-        }
+        let mask = DofMask {
+            len: self.len,
+            words: seeds,
+        };
+        region::grow_undirected_region(self.topology, mask, hops, region, frontier, scratch).is_ok()
     }
 }
 
 // Growths under a layout.
 #[derive(Clone, Copy)]
 struct Fields<'a> {
-    nrows: usize,
-    ncols: usize,
-    row_word_ptr: &'a [u32],
-    row_word_indices: &'a [u32],
-    row_masks: &'a [u64],
-    structural_nnz: usize,
-    column_nrows: usize,
-    column_ncols: usize,
-    column_word_ptr: &'a [u32],
-    column_word_indices: &'a [u32],
-    column_masks: &'a [u64],
-    column_structural_nnz: usize,
-    entity_kinds: &'a [u8],
-    entity_ids: &'a [u64],
-    field_ids: &'a [u32],
-    components: &'a [u32],
-    offsets: &'a [u64],
+    topology: AbtmDualTopology<'a>,
+    layout: FieldAwareDofLayout<'a>,
     len: usize,
 }
 
 impl<'a> Grower for Fields<'a> {
-    ghost shared = { λ g. field_ground (topology_check g.nrows g.ncols g.row_word_ptr.now g.row_word_indices.now g.row_masks.now g.structural_nnz g.column_nrows g.column_ncols g.column_word_ptr.now g.column_word_indices.now g.column_masks.now g.column_structural_nnz) (square_check g.entity_kinds.now g.entity_ids.now g.field_ids.now g.components.now g.offsets.now g.nrows g.ncols) g.components.now (side_holds g.row_word_ptr.now g.row_word_indices.now g.row_masks.now) g.len };
+    ghost shared = { λ g. field_ground (check_topology g.topology) (check_square g.layout g.topology.rows.nrows g.topology.rows.ncols) g.layout.blocks.components.now (holds g.topology.rows) g.len };
 
     fn once(
         &self,
@@ -137,34 +96,20 @@ impl<'a> Grower for Fields<'a> {
         frontier: &mut [u64],
         scratch: &mut [u64],
     ) -> bool {
-        match field_region::grow_field_aware_region(
-            self.nrows,
-            self.ncols,
-            self.row_word_ptr,
-            self.row_word_indices,
-            self.row_masks,
-            self.structural_nnz,
-            self.column_nrows,
-            self.column_ncols,
-            self.column_word_ptr,
-            self.column_word_indices,
-            self.column_masks,
-            self.column_structural_nnz,
-            self.entity_kinds,
-            self.entity_ids,
-            self.field_ids,
-            self.components,
-            self.offsets,
-            self.len,
-            seeds,
+        let mask = DofMask {
+            len: self.len,
+            words: seeds,
+        };
+        field_region::grow_field_aware_region(
+            self.topology,
+            self.layout,
+            mask,
             hops,
             region,
             frontier,
             scratch,
-        ) {
-            Err(_) => false,
-            Ok(_) => true,
-        }
+        )
+        .is_ok()
     }
 }
 
@@ -235,18 +180,7 @@ fn grow_all<G: Grower>(
 
 // A list of plain growths.
 pub fn grow_list(
-    nrows: usize,
-    ncols: usize,
-    row_word_ptr: &[u32],
-    row_word_indices: &[u32],
-    row_masks: &[u64],
-    structural_nnz: usize,
-    column_nrows: usize,
-    column_ncols: usize,
-    column_word_ptr: &[u32],
-    column_word_indices: &[u32],
-    column_masks: &[u64],
-    column_structural_nnz: usize,
+    topology: AbtmDualTopology,
     len: usize,
     seeds: &mut [u64],
     hops: &[u64],
@@ -255,50 +189,21 @@ pub fn grow_list(
     frontier: &mut [u64],
     scratch: &mut [u64],
 ) -> Ran
-    requires { (topology_check nrows ncols row_word_ptr.now row_word_indices.now row_masks.now structural_nnz column_nrows column_ncols column_word_ptr.now column_word_indices.now column_masks.now column_structural_nnz ≡ Ok tt) × (nrows ≡ ncols) × (length_check nrows len seeds.old ≡ Ok tt) × (length rooms.now ≡ length hops.now) }
-    ensures value { result ≡ ran_of (words_needed nrows) hops.now rooms.now (min (length region.old) (min (length frontier.old) (length scratch.old))) (length hops.now) }
-    ensures renewed { seeds.new ≡ seeds_after (plain_network nrows (side_holds row_word_ptr.now row_word_indices.now row_masks.now)) result seeds.old }
-    ensures inside { region.new ≡ region_once_grown (plain_network nrows (side_holds row_word_ptr.now row_word_indices.now row_masks.now)) result seeds.old region.old }
-    ensures edge { frontier.new ≡ frontier_once_grown (plain_network nrows (side_holds row_word_ptr.now row_word_indices.now row_masks.now)) result seeds.old frontier.old }
-    ensures spent { scratch.new ≡ scratch_once_grown (plain_network nrows (side_holds row_word_ptr.now row_word_indices.now row_masks.now)) result scratch.old }
+    requires { (check_topology topology ≡ Ok tt) × (topology.rows.nrows ≡ topology.rows.ncols) × (length_check topology.rows.nrows len seeds.old ≡ Ok tt) × (length rooms.now ≡ length hops.now) }
+    ensures value { result ≡ ran_of (words_needed topology.entry.rows.nrows) hops.now rooms.now (min (length region.old) (min (length frontier.old) (length scratch.old))) (length hops.now) }
+    ensures renewed { seeds.new ≡ seeds_after (plain topology.entry) result seeds.old }
+    ensures inside { region.new ≡ region_once_grown (plain topology.entry) result seeds.old region.old }
+    ensures edge { frontier.new ≡ frontier_once_grown (plain topology.entry) result seeds.old frontier.old }
+    ensures spent { scratch.new ≡ scratch_once_grown (plain topology.entry) result scratch.old }
 {
-    let g = Plain {
-        nrows,
-        ncols,
-        row_word_ptr,
-        row_word_indices,
-        row_masks,
-        structural_nnz,
-        column_nrows,
-        column_ncols,
-        column_word_ptr,
-        column_word_indices,
-        column_masks,
-        column_structural_nnz,
-        len,
-    };
+    let g = Plain { topology, len };
     grow_all(&g, seeds, hops, rooms, region, frontier, scratch)
 }
 
 // The same under a layout: demand 3 for field growths.
-pub fn grow_field_list(
-    nrows: usize,
-    ncols: usize,
-    row_word_ptr: &[u32],
-    row_word_indices: &[u32],
-    row_masks: &[u64],
-    structural_nnz: usize,
-    column_nrows: usize,
-    column_ncols: usize,
-    column_word_ptr: &[u32],
-    column_word_indices: &[u32],
-    column_masks: &[u64],
-    column_structural_nnz: usize,
-    entity_kinds: &[u8],
-    entity_ids: &[u64],
-    field_ids: &[u32],
-    components: &[u32],
-    offsets: &[u64],
+pub fn grow_field_list<'a>(
+    topology: AbtmDualTopology<'a>,
+    layout: FieldAwareDofLayout<'a>,
     len: usize,
     seeds: &mut [u64],
     hops: &[u64],
@@ -307,31 +212,16 @@ pub fn grow_field_list(
     frontier: &mut [u64],
     scratch: &mut [u64],
 ) -> Ran
-    requires { (topology_check nrows ncols row_word_ptr.now row_word_indices.now row_masks.now structural_nnz column_nrows column_ncols column_word_ptr.now column_word_indices.now column_masks.now column_structural_nnz ≡ Ok tt) × (square_check entity_kinds.now entity_ids.now field_ids.now components.now offsets.now nrows ncols ≡ Ok tt) × (length_check nrows len seeds.old ≡ Ok tt) × (length rooms.now ≡ length hops.now) }
-    ensures value { result ≡ ran_of (words_needed nrows) hops.now rooms.now (min (length region.old) (min (length frontier.old) (length scratch.old))) (length hops.now) }
-    ensures renewed { seeds.new ≡ seeds_after (field_network components.now (side_holds row_word_ptr.now row_word_indices.now row_masks.now)) result seeds.old }
-    ensures inside { region.new ≡ region_once_grown (field_network components.now (side_holds row_word_ptr.now row_word_indices.now row_masks.now)) result seeds.old region.old }
-    ensures edge { frontier.new ≡ frontier_once_grown (field_network components.now (side_holds row_word_ptr.now row_word_indices.now row_masks.now)) result seeds.old frontier.old }
-    ensures spent { scratch.new ≡ scratch_once_grown (field_network components.now (side_holds row_word_ptr.now row_word_indices.now row_masks.now)) result scratch.old }
+    requires { (check_topology topology ≡ Ok tt) × (check_square layout topology.rows.nrows topology.rows.ncols ≡ Ok tt) × (length_check topology.rows.nrows len seeds.old ≡ Ok tt) × (length rooms.now ≡ length hops.now) }
+    ensures value { result ≡ ran_of (words_needed topology.entry.rows.nrows) hops.now rooms.now (min (length region.old) (min (length frontier.old) (length scratch.old))) (length hops.now) }
+    ensures renewed { seeds.new ≡ seeds_after (blocked topology.entry layout.entry) result seeds.old }
+    ensures inside { region.new ≡ region_once_grown (blocked topology.entry layout.entry) result seeds.old region.old }
+    ensures edge { frontier.new ≡ frontier_once_grown (blocked topology.entry layout.entry) result seeds.old frontier.old }
+    ensures spent { scratch.new ≡ scratch_once_grown (blocked topology.entry layout.entry) result scratch.old }
 {
     let g = Fields {
-        nrows,
-        ncols,
-        row_word_ptr,
-        row_word_indices,
-        row_masks,
-        structural_nnz,
-        column_nrows,
-        column_ncols,
-        column_word_ptr,
-        column_word_indices,
-        column_masks,
-        column_structural_nnz,
-        entity_kinds,
-        entity_ids,
-        field_ids,
-        components,
-        offsets,
+        topology,
+        layout,
         len,
     };
     grow_all(&g, seeds, hops, rooms, region, frontier, scratch)

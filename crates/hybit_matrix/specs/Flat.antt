@@ -22,30 +22,31 @@ answer_of_number n = record { number = 0; present = true; expected = 0; actual =
 abbrev pub answered_none : Answer
 answered_none = record { number = 0; present = false; expected = 0; actual = 0; value = 0 }
 
-unfoldable pub flat_of_checked : Check → Answer
-flat_of_checked (Ok tt) = answer_of_number 0
-flat_of_checked (Err r) = answer_refused r
+-- the record of an answer, from the record of a value and that of a refusal
+unfoldable pub flat_of : {A R : Type 0} → (A → R) → (Refusal → R) → Result A Refusal → R
+flat_of value refused (Ok x) = value x
+flat_of value refused (Err r) = refused r
 
-unfoldable pub flat_of_truth : Result Bool Refusal → Answer
-flat_of_truth (Ok b) = answer_of_number (one_if b)
-flat_of_truth (Err r) = answer_refused r
+-- the record of a value or none
+unfoldable pub flat_of_some : {A R : Type 0} → (A → R) → R → Option A → R
+flat_of_some value none (Some x) = value x
+flat_of_some value none None = none
 
-unfoldable pub flat_of_counted : Result ℕ Refusal → Answer
-flat_of_counted (Ok n) = answer_of_number n
-flat_of_counted (Err r) = answer_refused r
+abbrev pub flat_of_checked : Check → Answer
+flat_of_checked = flat_of (λ _. answer_of_number 0) answer_refused
 
-unfoldable pub flat_of_ranked : Result ℕ Refusal → Answer
-flat_of_ranked (Ok n) = answer_of_number n
-flat_of_ranked (Err r) = answer_refused r
+abbrev pub flat_of_truth : Result Bool Refusal → Answer
+flat_of_truth = flat_of (λ b. answer_of_number (one_if b)) answer_refused
 
-unfoldable pub flat_of_selected : Option ℕ → Answer
-flat_of_selected (Some n) = answer_of_number n
-flat_of_selected None = answered_none
+abbrev pub flat_of_counted : Result ℕ Refusal → Answer
+flat_of_counted = flat_of answer_of_number answer_refused
+
+abbrev pub flat_of_selected : Option ℕ → Answer
+flat_of_selected = flat_of_some answer_of_number answered_none
 
 -- a kind crosses as its number
-unfoldable pub flat_of_kinded : Result DofEntityKind Refusal → Answer
-flat_of_kinded (Ok k) = answer_of_number (code_of k)
-flat_of_kinded (Err r) = answer_refused r
+abbrev pub flat_of_kinded : Result DofEntityKind Refusal → Answer
+flat_of_kinded = flat_of (λ k. answer_of_number (code_of k)) answer_refused
 
 -- ---- answers of two numbers
 
@@ -58,12 +59,8 @@ pair_answer_of a b = record { number = 0; present = true; expected = 0; actual =
 abbrev pub pair_answer_none : PairAnswer
 pair_answer_none = record { number = 0; present = false; expected = 0; actual = 0; first = 0; second = 0 }
 
-unfoldable pub flat_of_ranged : Result (Option Range) Refusal → PairAnswer
-flat_of_ranged (Ok (Some n)) = pair_answer_of n.start n.end
-flat_of_ranged (Ok None) = pair_answer_none
-flat_of_ranged (Err r) = pair_answer_refused r
+abbrev pub flat_of_ranged : Result (Option Range) Refusal → PairAnswer
+flat_of_ranged = flat_of (flat_of_some (λ n. pair_answer_of n.start n.end) pair_answer_none) pair_answer_refused
 
-unfoldable pub flat_of_located : Result (Option DofAddress) Refusal → PairAnswer
-flat_of_located (Ok (Some a)) = pair_answer_of a.block_index a.component
-flat_of_located (Ok None) = pair_answer_none
-flat_of_located (Err r) = pair_answer_refused r
+abbrev pub flat_of_located : Result (Option DofAddress) Refusal → PairAnswer
+flat_of_located = flat_of (flat_of_some (λ x. pair_answer_of x.block_index x.component) pair_answer_none) pair_answer_refused

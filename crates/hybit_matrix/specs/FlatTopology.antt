@@ -1,6 +1,6 @@
 -- The answers of the calls on topologies as the flat records that cross the C boundary.
 use Rattle.std.specs.Prelude.{Bool, true, false}
-use Rattle.std.specs.Prelude.{ℕ, Result, Ok, Err, Option, Some, None}
+use Rattle.std.specs.Prelude.{ℕ, Result, Ok, Err, Option}
 use Rattle.base.specs.declared.Refusal.{Refusal}
 use Rattle.std.specs.Float.{binary64}
 use Rattle.std.specs.Float.Ieee.{of_bits}
@@ -12,7 +12,7 @@ use Rattle.hybit_matrix.specs.declared.PairAnswer.{PairAnswer}
 use Rattle.hybit_matrix.specs.declared.one_side.TopologyStatsAnswer.{TopologyStatsAnswer}
 use Rattle.hybit_matrix.specs.declared.both_sides.DualStatsAnswer.{DualStatsAnswer}
 use Rattle.hybit_matrix.specs.declared.both_sides.BuildAnswer.{BuildAnswer}
-use Rattle.hybit_matrix.specs.Flat.{answer_of_number, answered_none, answer_refused, pair_answer_of, pair_answer_none, pair_answer_refused}
+use Rattle.hybit_matrix.specs.Flat.{flat_of, flat_of_some, flat_of_selected, answer_refused, pair_answer_of, pair_answer_none, pair_answer_refused}
 use Rattle.word.specs.declared.AbtmTopologyWord.{AbtmTopologyWord}
 use Rattle.dual_topology.specs.declared.TopologyCounts.{TopologyCounts}
 use Rattle.dual_topology.specs.declared.AbtmDualTopologyStats.{AbtmDualTopologyStats}
@@ -26,9 +26,8 @@ flat_of_stated (Ok x) =
 flat_of_stated (Err r) =
     record { number = refusal_number r; present = false; expected = refusal_expected r; actual = refusal_actual r; nrows = 0; ncols = 0; structural_nnz = 0; nonempty_words = 0; metadata_bytes = 0; average_word_nnz = of_bits binary64 0; word_fill_ratio = of_bits binary64 0; metadata_bytes_per_nnz = of_bits binary64 0 }
 
-unfoldable pub flat_of_built : Result SideCounts Refusal → PairAnswer
-flat_of_built (Ok x) = pair_answer_of x.words x.pairs
-flat_of_built (Err r) = pair_answer_refused r
+abbrev pub flat_of_built : Result SideCounts Refusal → PairAnswer
+flat_of_built = flat_of (λ x. pair_answer_of x.words x.pairs) pair_answer_refused
 
 unfoldable pub flat_of_dual_stated : Result AbtmDualTopologyStats Refusal → DualStatsAnswer
 flat_of_dual_stated (Ok x) =
@@ -42,15 +41,11 @@ flat_of_topology_built (Ok x) =
 flat_of_topology_built (Err r) =
     record { number = refusal_number r; present = false; expected = refusal_expected r; actual = refusal_actual r; row_words = 0; column_words = 0; pairs = 0 }
 
-unfoldable pub flat_of_column : Result (Option ℕ) Refusal → Answer
-flat_of_column (Ok (Some c)) = answer_of_number c
-flat_of_column (Ok None) = answered_none
-flat_of_column (Err r) = answer_refused r
+abbrev pub flat_of_column : Result (Option ℕ) Refusal → Answer
+flat_of_column = flat_of flat_of_selected answer_refused
 
-unfoldable pub flat_of_word : Result (Option AbtmTopologyWord) Refusal → PairAnswer
-flat_of_word (Ok (Some w)) = pair_answer_of w.word_index w.mask
-flat_of_word (Ok None) = pair_answer_none
-flat_of_word (Err r) = pair_answer_refused r
+abbrev pub flat_of_word : Result (Option AbtmTopologyWord) Refusal → PairAnswer
+flat_of_word = flat_of (flat_of_some (λ w. pair_answer_of w.word_index w.mask) pair_answer_none) pair_answer_refused
 
 -- the side that the C flag names
 unfoldable pub side_of_name : Bool → RowOf

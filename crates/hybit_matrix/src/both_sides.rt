@@ -5,10 +5,10 @@ ghost use Rattle.side.specs.Side.{flip, side_holds};
 ghost use Rattle.side.specs.Built.{built_ptr, built_words, built_masks};
 ghost use Rattle.dual_topology.specs.Check.{topology_check};
 ghost use Rattle.dual_topology.specs.Answers.{build_check, build_answer, scratch, stats_of, stats_answer, rows_of, width_of, row_set, row_check, row_words_answer, row_popcount_answer, row_contains_answer, row_rank_answer, row_select_answer, row_word_answer};
-ghost use Rattle.hybit_matrix.specs.Flat.{flat_of_checked, flat_of_truth, flat_of_counted};
+ghost use Rattle.hybit_matrix.specs.Flat.{pair_answer_of, flat_of_checked, flat_of_truth, flat_of_counted};
 ghost use Rattle.hybit_matrix.specs.FlatTopology.{flat_of_dual_stated, flat_of_topology_built, flat_of_column, flat_of_word, side_of_name};
 
-use crate::{Answer, PairAnswer};
+use crate::{Answer, Flat, PairAnswer, views};
 use base::Refusal;
 use dual_topology::{AbtmDualTopologyStats, RowOf, TopologyCounts};
 use word::AbtmTopologyWord;
@@ -43,94 +43,80 @@ pub struct BuildAnswer {
     pub pairs: u64,
 }
 
-#[tactic(auto, unfolding(crate::specs::FlatTopology::flat_of_dual_stated))]
-fn flat_dual_stated(s: Result<AbtmDualTopologyStats, Refusal>) -> DualStatsAnswer
-    ensures { result ≡ flat_of_dual_stated s }
-{
-    match s {
-        Ok(x) => DualStatsAnswer {
-            number: 0,
-            present: true,
-            expected: 0,
-            actual: 0,
-            nrows: x.nrows as u64,
-            ncols: x.ncols as u64,
-            structural_nnz: x.structural_nnz as u64,
-            row_metadata_bytes: x.row_metadata_bytes as u64,
-            column_metadata_bytes: x.column_metadata_bytes as u64,
-            total_metadata_bytes: x.total_metadata_bytes(),
-            metadata_bytes_per_nnz: x.metadata_bytes_per_nnz(),
-        },
-        Err(r) => DualStatsAnswer {
-            number: r.number(),
-            present: false,
-            expected: r.expected(),
-            actual: r.actual(),
-            nrows: 0,
-            ncols: 0,
-            structural_nnz: 0,
-            row_metadata_bytes: 0,
-            column_metadata_bytes: 0,
-            total_metadata_bytes: 0,
-            metadata_bytes_per_nnz: 0.0,
-        },
+impl From<Result<AbtmDualTopologyStats, Refusal>> for DualStatsAnswer {
+    ghost from_gives = { λ r a. a ≡ flat_of_dual_stated r };
+
+    #[tactic(auto, unfolding(crate::specs::FlatTopology::flat_of_dual_stated))]
+    fn from(s: Result<AbtmDualTopologyStats, Refusal>) -> Self {
+        match s {
+            Ok(x) => Self {
+                number: 0,
+                present: true,
+                expected: 0,
+                actual: 0,
+                nrows: x.nrows as u64,
+                ncols: x.ncols as u64,
+                structural_nnz: x.structural_nnz as u64,
+                row_metadata_bytes: x.row_metadata_bytes as u64,
+                column_metadata_bytes: x.column_metadata_bytes as u64,
+                total_metadata_bytes: x.total_metadata_bytes(),
+                metadata_bytes_per_nnz: x.metadata_bytes_per_nnz(),
+            },
+            Err(r) => Self {
+                number: r.number(),
+                present: false,
+                expected: r.expected(),
+                actual: r.actual(),
+                nrows: 0,
+                ncols: 0,
+                structural_nnz: 0,
+                row_metadata_bytes: 0,
+                column_metadata_bytes: 0,
+                total_metadata_bytes: 0,
+                metadata_bytes_per_nnz: 0.0,
+            },
+        }
     }
 }
 
-#[tactic(auto, unfolding(crate::specs::FlatTopology::flat_of_topology_built))]
-fn flat_topology_built(b: Result<TopologyCounts, Refusal>) -> BuildAnswer
-    ensures { result ≡ flat_of_topology_built b }
-{
-    match b {
-        Ok(x) => BuildAnswer {
-            number: 0,
-            present: true,
-            expected: 0,
-            actual: 0,
-            row_words: x.row_words,
-            column_words: x.column_words,
-            pairs: x.pairs,
-        },
-        Err(r) => BuildAnswer {
-            number: r.number(),
-            present: false,
-            expected: r.expected(),
-            actual: r.actual(),
-            row_words: 0,
-            column_words: 0,
-            pairs: 0,
-        },
+impl From<Result<TopologyCounts, Refusal>> for BuildAnswer {
+    ghost from_gives = { λ r a. a ≡ flat_of_topology_built r };
+
+    #[tactic(auto, unfolding(crate::specs::FlatTopology::flat_of_topology_built))]
+    fn from(b: Result<TopologyCounts, Refusal>) -> Self {
+        match b {
+            Ok(x) => Self {
+                number: 0,
+                present: true,
+                expected: 0,
+                actual: 0,
+                row_words: x.row_words,
+                column_words: x.column_words,
+                pairs: x.pairs,
+            },
+            Err(r) => Self {
+                number: r.number(),
+                present: false,
+                expected: r.expected(),
+                actual: r.actual(),
+                row_words: 0,
+                column_words: 0,
+                pairs: 0,
+            },
+        }
     }
 }
 
-#[tactic(auto, unfolding(crate::specs::FlatTopology::flat_of_column))]
-fn flat_column(a: Result<Option<usize>, Refusal>) -> Answer
-    ensures { result ≡ flat_of_column a }
-{
-    match a {
-        Ok(Some(c)) => crate::answered_with(c as u64),
-        Ok(None) => Answer {
-            number: 0,
-            present: false,
-            expected: 0,
-            actual: 0,
-            value: 0,
-        },
-        Err(r) => crate::refused_with(r),
+impl Flat<PairAnswer> for AbtmTopologyWord {
+    ghost flat_record = { λ w. pair_answer_of w.word_index w.mask };
+
+    fn flat(self) -> PairAnswer {
+        (self.word_index as u64, self.mask).flat()
     }
 }
 
-#[tactic(auto, unfolding(crate::specs::FlatTopology::flat_of_word))]
-fn flat_word(a: Result<Option<AbtmTopologyWord>, Refusal>) -> PairAnswer
-    ensures { result ≡ flat_of_word a }
-{
-    match a {
-        Ok(Some(w)) => crate::layout::pair_with(w.word_index as u64, w.mask),
-        Ok(None) => crate::layout::pair_none(),
-        Err(r) => crate::layout::pair_refused(r),
-    }
-}
-
+// `RowOf` is another crate's, and a flag names a side only here: no `From`.
+#[tactic(auto, unfolding(crate::specs::FlatTopology::side_of_name))]
 fn side_named(columns: bool) -> RowOf
     ensures { result ≡ side_of_name columns }
 {
@@ -164,12 +150,8 @@ pub fn hybit_dual_topology_from_csr32(
     ensures scratch_starts { starts.new ≡ scratch (build_check nrows ncols row_ptr.now col_idx.now values.now row_word_ptr.old row_word_indices.old row_masks.old column_word_ptr.old column_word_indices.old column_masks.old starts.old order.old) (ncols + 1) starts.old }
     ensures scratch_order { order.new ≡ scratch (build_check nrows ncols row_ptr.now col_idx.now values.now row_word_ptr.old row_word_indices.old row_masks.old column_word_ptr.old column_word_indices.old column_masks.old starts.old order.old) (length col_idx.now) order.old }
 {
-    flat_topology_built(dual_topology::from_csr32(
-        nrows,
-        ncols,
-        row_ptr,
-        col_idx,
-        values,
+    dual_topology::from_csr32(
+        views::matrix(nrows, ncols, row_ptr, col_idx, values),
         row_word_ptr,
         row_word_indices,
         row_masks,
@@ -178,7 +160,8 @@ pub fn hybit_dual_topology_from_csr32(
         column_masks,
         starts,
         order,
-    ))
+    )
+    .into()
 }
 
 // Checks a topology: 1 (both sides), 9 (each side, and that the columns are the transpose of the rows).
@@ -198,7 +181,7 @@ pub fn hybit_dual_topology_validate(
 ) -> Answer
     ensures { result ≡ flat_of_checked (topology_check nrows ncols row_word_ptr.now row_word_indices.now row_masks.now structural_nnz column_nrows column_ncols column_word_ptr.now column_word_indices.now column_masks.now column_structural_nnz) }
 {
-    crate::flat_checked(dual_topology::validate(
+    views::topology(
         nrows,
         ncols,
         row_word_ptr,
@@ -211,7 +194,9 @@ pub fn hybit_dual_topology_validate(
         column_word_indices,
         column_masks,
         column_structural_nnz,
-    ))
+    )
+    .validate()
+    .into()
 }
 
 // Counts and bytes of a topology. Refuses 1, 9.
@@ -231,7 +216,7 @@ pub fn hybit_dual_topology_stats(
 ) -> DualStatsAnswer
     ensures { result ≡ flat_of_dual_stated (stats_answer (topology_check nrows ncols row_word_ptr.now row_word_indices.now row_masks.now structural_nnz column_nrows column_ncols column_word_ptr.now column_word_indices.now column_masks.now column_structural_nnz) (stats_of nrows ncols row_word_ptr.now row_word_indices.now row_masks.now structural_nnz column_word_ptr.now column_word_indices.now column_masks.now)) }
 {
-    flat_dual_stated(dual_topology::stats(
+    views::topology(
         nrows,
         ncols,
         row_word_ptr,
@@ -244,8 +229,12 @@ pub fn hybit_dual_topology_stats(
         column_word_indices,
         column_masks,
         column_structural_nnz,
-    ))
+    )
+    .stats()
+    .into()
 }
+
+// The six calls on a row stay one function each: C names each, and each body is the one call that it hands its lists on to.
 
 // value: how many words a row stores. Refuses 1, 9, then 13 for the number.
 pub fn hybit_row_words(
@@ -266,7 +255,7 @@ pub fn hybit_row_words(
 ) -> Answer
     ensures { result ≡ flat_of_counted (row_words_answer (row_check (topology_check nrows ncols row_word_ptr.now row_word_indices.now row_masks.now structural_nnz column_nrows column_ncols column_word_ptr.now column_word_indices.now column_masks.now column_structural_nnz) number (rows_of (side_of_name columns) nrows ncols)) (width_of (side_of_name columns) nrows ncols) (row_set (side_of_name columns) (side_holds row_word_ptr.now row_word_indices.now row_masks.now) number)) }
 {
-    crate::flat_counted(dual_topology::row_words(
+    views::topology(
         nrows,
         ncols,
         row_word_ptr,
@@ -279,9 +268,9 @@ pub fn hybit_row_words(
         column_word_indices,
         column_masks,
         column_structural_nnz,
-        side_named(columns),
-        number,
-    ))
+    )
+    .row_words(side_named(columns), number)
+    .into()
 }
 
 // value: how many columns a row has. Refuses as row_words.
@@ -303,7 +292,7 @@ pub fn hybit_row_popcount(
 ) -> Answer
     ensures { result ≡ flat_of_counted (row_popcount_answer (row_check (topology_check nrows ncols row_word_ptr.now row_word_indices.now row_masks.now structural_nnz column_nrows column_ncols column_word_ptr.now column_word_indices.now column_masks.now column_structural_nnz) number (rows_of (side_of_name columns) nrows ncols)) (width_of (side_of_name columns) nrows ncols) (row_set (side_of_name columns) (side_holds row_word_ptr.now row_word_indices.now row_masks.now) number)) }
 {
-    crate::flat_counted(dual_topology::row_popcount(
+    views::topology(
         nrows,
         ncols,
         row_word_ptr,
@@ -316,9 +305,9 @@ pub fn hybit_row_popcount(
         column_word_indices,
         column_masks,
         column_structural_nnz,
-        side_named(columns),
-        number,
-    ))
+    )
+    .row_popcount(side_named(columns), number)
+    .into()
 }
 
 // value: 1 if the row has the column, else 0; past the last column 0. Refuses as row_words.
@@ -341,7 +330,7 @@ pub fn hybit_row_contains(
 ) -> Answer
     ensures { result ≡ flat_of_truth (row_contains_answer (row_check (topology_check nrows ncols row_word_ptr.now row_word_indices.now row_masks.now structural_nnz column_nrows column_ncols column_word_ptr.now column_word_indices.now column_masks.now column_structural_nnz) number (rows_of (side_of_name columns) nrows ncols)) (width_of (side_of_name columns) nrows ncols) (row_set (side_of_name columns) (side_holds row_word_ptr.now row_word_indices.now row_masks.now) number) col) }
 {
-    crate::flat_truth(dual_topology::row_contains(
+    views::topology(
         nrows,
         ncols,
         row_word_ptr,
@@ -354,10 +343,9 @@ pub fn hybit_row_contains(
         column_word_indices,
         column_masks,
         column_structural_nnz,
-        side_named(columns),
-        number,
-        col,
-    ))
+    )
+    .row_contains(side_named(columns), number, col)
+    .into()
 }
 
 // value: how many of the row's columns stand below `col`. Refuses as row_words, then 13 for a column past the end.
@@ -380,7 +368,7 @@ pub fn hybit_row_rank(
 ) -> Answer
     ensures { result ≡ flat_of_counted (row_rank_answer (row_check (topology_check nrows ncols row_word_ptr.now row_word_indices.now row_masks.now structural_nnz column_nrows column_ncols column_word_ptr.now column_word_indices.now column_masks.now column_structural_nnz) number (rows_of (side_of_name columns) nrows ncols)) (width_of (side_of_name columns) nrows ncols) (row_set (side_of_name columns) (side_holds row_word_ptr.now row_word_indices.now row_masks.now) number) col) }
 {
-    crate::flat_counted(dual_topology::row_rank(
+    views::topology(
         nrows,
         ncols,
         row_word_ptr,
@@ -393,10 +381,9 @@ pub fn hybit_row_rank(
         column_word_indices,
         column_masks,
         column_structural_nnz,
-        side_named(columns),
-        number,
-        col,
-    ))
+    )
+    .row_rank(side_named(columns), number, col)
+    .into()
 }
 
 // value: the row's column number `ordinal`, counted from 0; or none. Refuses as row_words.
@@ -419,7 +406,7 @@ pub fn hybit_row_select(
 ) -> Answer
     ensures { result ≡ flat_of_column (row_select_answer (row_check (topology_check nrows ncols row_word_ptr.now row_word_indices.now row_masks.now structural_nnz column_nrows column_ncols column_word_ptr.now column_word_indices.now column_masks.now column_structural_nnz) number (rows_of (side_of_name columns) nrows ncols)) (width_of (side_of_name columns) nrows ncols) (row_set (side_of_name columns) (side_holds row_word_ptr.now row_word_indices.now row_masks.now) number) ordinal) }
 {
-    flat_column(dual_topology::row_select(
+    views::topology(
         nrows,
         ncols,
         row_word_ptr,
@@ -432,10 +419,9 @@ pub fn hybit_row_select(
         column_word_indices,
         column_masks,
         column_structural_nnz,
-        side_named(columns),
-        number,
-        ordinal,
-    ))
+    )
+    .row_select(side_named(columns), number, ordinal)
+    .into()
 }
 
 // first and second: number and bits of the row's word k; or none. Refuses as row_words.
@@ -458,7 +444,7 @@ pub fn hybit_row_word(
 ) -> PairAnswer
     ensures { result ≡ flat_of_word (row_word_answer (row_check (topology_check nrows ncols row_word_ptr.now row_word_indices.now row_masks.now structural_nnz column_nrows column_ncols column_word_ptr.now column_word_indices.now column_masks.now column_structural_nnz) number (rows_of (side_of_name columns) nrows ncols)) (width_of (side_of_name columns) nrows ncols) (row_set (side_of_name columns) (side_holds row_word_ptr.now row_word_indices.now row_masks.now) number) k) }
 {
-    flat_word(dual_topology::row_word(
+    views::topology(
         nrows,
         ncols,
         row_word_ptr,
@@ -471,8 +457,7 @@ pub fn hybit_row_word(
         column_word_indices,
         column_masks,
         column_structural_nnz,
-        side_named(columns),
-        number,
-        k,
-    ))
+    )
+    .row_word(side_named(columns), number, k)
+    .into()
 }

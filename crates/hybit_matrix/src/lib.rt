@@ -1,15 +1,16 @@
-// Every public call as one function over lists, its answer as one flat record. The static library hybit_matrix_c exports each for C.
+// Every public call as one function over lists, its answer as one flat record of numbers and flags: C has neither slices nor enums with values, so
+// lists that belong together and the records stay as they are here. The static library hybit_matrix_c exports each for C.
 #![tactic(auto)]
 
 ghost use Rattle.std.specs.Prelude.{◌≡◌, ◌*◌};
-ghost use Rattle.base.specs.Sets.{count_below};
+ghost use Rattle.base.specs.Sets.{count_below, one_if};
 ghost use Rattle.word.specs.Bits.{bit_at};
 ghost use Rattle.word.specs.Answers.{rank_answer, select_answer};
 ghost use Rattle.word.specs.Answers as word;
 ghost use Rattle.csr32.specs.Matrix.{matrix_check};
 ghost use Rattle.mask.specs.Mask.{mask_check};
 ghost use Rattle.mask.specs.Answers.{new_check, new_words, from_check, from_words, empty_answer, count_answer, contains_answer, set_check, set_words, pair_check, combined_words, union, intersection, and_not_of, intersects_answer, indices_answer, indices_list, or_word_words};
-ghost use Rattle.hybit_matrix.specs.Flat.{answer_refused, answer_of_number, flat_of_checked, flat_of_truth, flat_of_counted, flat_of_ranked, flat_of_selected};
+ghost use Rattle.hybit_matrix.specs.Flat.{flat_of, flat_of_some, answer_refused, answer_of_number, answered_none, pair_answer_refused, pair_answer_of, pair_answer_none, flat_of_checked, flat_of_truth, flat_of_counted, flat_of_selected};
 
 use base::Refusal;
 use word::AbtmTopologyWord;
@@ -20,6 +21,7 @@ pub mod local;
 pub mod one_side;
 pub mod prepared;
 pub mod regions;
+mod views;
 
 // number: the refusal's number, or 0. present: there is an answer (false after a refusal, and where the answer is none).
 // value: the count, the bit, or 1 for yes and 0 for no.
@@ -45,89 +47,155 @@ pub struct PairAnswer {
     pub second: u64,
 }
 
-fn refused_with(r: Refusal) -> Answer
-    ensures { result ≡ answer_refused r }
-{
-    Answer {
-        number: r.number(),
-        present: false,
-        expected: r.expected(),
-        actual: r.actual(),
-        value: 0,
-    }
+// A value that is no refusal, as the record of an answer that has it. What a `From` promises is a relation; this is a function, so that the
+// conversions of any such value, which stand on it, promise an equation.
+pub trait Flat<R> {
+    ghost flat_record: { Self → R };
+
+    fn flat(self) -> R
+        ensures { result ≡ flat_record self };
 }
 
-fn answered_with(value: u64) -> Answer
-    ensures { result ≡ answer_of_number value }
-{
-    Answer {
-        number: 0,
-        present: true,
-        expected: 0,
-        actual: 0,
-        value,
-    }
-}
+impl From<Refusal> for Answer {
+    ghost from_gives = { λ r a. a ≡ answer_refused r };
 
-#[tactic(auto, unfolding(crate::specs::Flat::flat_of_checked))]
-fn flat_checked(c: Result<(), Refusal>) -> Answer
-    ensures { result ≡ flat_of_checked c }
-{
-    match c {
-        Ok(()) => answered_with(0),
-        Err(r) => refused_with(r),
-    }
-}
-
-#[tactic(auto, unfolding(crate::specs::Flat::flat_of_truth))]
-fn flat_truth(t: Result<bool, Refusal>) -> Answer
-    ensures { result ≡ flat_of_truth t }
-{
-    match t {
-        Ok(yes) => {
-            if yes {
-                answered_with(1)
-            } else {
-                answered_with(0)
-            }
-        }
-        Err(r) => refused_with(r),
-    }
-}
-
-#[tactic(auto, unfolding(crate::specs::Flat::flat_of_counted))]
-fn flat_counted(c: Result<u64, Refusal>) -> Answer
-    ensures { result ≡ flat_of_counted c }
-{
-    match c {
-        Ok(n) => answered_with(n),
-        Err(r) => refused_with(r),
-    }
-}
-
-#[tactic(auto, unfolding(crate::specs::Flat::flat_of_ranked))]
-fn flat_ranked(k: Result<usize, Refusal>) -> Answer
-    ensures { result ≡ flat_of_ranked k }
-{
-    match k {
-        Ok(n) => answered_with(n as u64),
-        Err(r) => refused_with(r),
-    }
-}
-
-#[tactic(auto, unfolding(crate::specs::Flat::flat_of_selected))]
-fn flat_selected(s: Option<usize>) -> Answer
-    ensures { result ≡ flat_of_selected s }
-{
-    match s {
-        Some(n) => answered_with(n as u64),
-        None => Answer {
-            number: 0,
+    fn from(r: Refusal) -> Self {
+        Self {
+            number: r.number(),
             present: false,
+            expected: r.expected(),
+            actual: r.actual(),
+            value: 0,
+        }
+    }
+}
+
+impl Flat<Answer> for u64 {
+    ghost flat_record = { answer_of_number };
+
+    fn flat(self) -> Answer {
+        Answer {
+            number: 0,
+            present: true,
             expected: 0,
             actual: 0,
-            value: 0,
-        },
+            value: self,
+        }
+    }
+}
+
+impl Flat<Answer> for usize {
+    ghost flat_record = { answer_of_number };
+
+    fn flat(self) -> Answer {
+        (self as u64).flat()
+    }
+}
+
+impl Flat<Answer> for bool {
+    ghost flat_record = { λ b. answer_of_number (one_if b) };
+
+    fn flat(self) -> Answer {
+        if self { 1u64.flat() } else { 0u64.flat() }
+    }
+}
+
+impl Flat<Answer> for () {
+    ghost flat_record = { λ _. answer_of_number 0 };
+
+    fn flat(self) -> Answer {
+        0u64.flat()
+    }
+}
+
+impl<T: Flat<Answer>> Flat<Answer> for Option<T> {
+    ghost flat_record = { flat_of_some T.Flat.flat_record answered_none };
+
+    #[tactic(auto, unfolding(crate::specs::Flat::flat_of_some))]
+    fn flat(self) -> Answer {
+        match self {
+            Some(x) => x.flat(),
+            None => Answer {
+                number: 0,
+                present: false,
+                expected: 0,
+                actual: 0,
+                value: 0,
+            },
+        }
+    }
+}
+
+impl<T: Flat<Answer>> From<Result<T, Refusal>> for Answer {
+    ghost from_gives = { λ r a. a ≡ flat_of T.Flat.flat_record answer_refused r };
+
+    #[tactic(auto, unfolding(crate::specs::Flat::flat_of))]
+    fn from(r: Result<T, Refusal>) -> Self {
+        match r {
+            Ok(x) => x.flat(),
+            Err(e) => e.into(),
+        }
+    }
+}
+
+impl From<Refusal> for PairAnswer {
+    ghost from_gives = { λ r a. a ≡ pair_answer_refused r };
+
+    fn from(r: Refusal) -> Self {
+        Self {
+            number: r.number(),
+            present: false,
+            expected: r.expected(),
+            actual: r.actual(),
+            first: 0,
+            second: 0,
+        }
+    }
+}
+
+impl Flat<PairAnswer> for (u64, u64) {
+    ghost flat_record = { λ p. pair_answer_of p.0 p.1 };
+
+    fn flat(self) -> PairAnswer {
+        PairAnswer {
+            number: 0,
+            present: true,
+            expected: 0,
+            actual: 0,
+            first: self.0,
+            second: self.1,
+        }
+    }
+}
+
+impl<T: Flat<PairAnswer>> Flat<PairAnswer> for Option<T> {
+    ghost flat_record = { flat_of_some T.Flat.flat_record pair_answer_none };
+
+    #[tactic(auto, unfolding(crate::specs::Flat::flat_of_some))]
+    fn flat(self) -> PairAnswer {
+        match self {
+            Some(x) => x.flat(),
+            None => PairAnswer {
+                number: 0,
+                present: false,
+                expected: 0,
+                actual: 0,
+                first: 0,
+                second: 0,
+            },
+        }
+    }
+}
+
+impl<T: Flat<PairAnswer>> From<Result<T, Refusal>> for PairAnswer {
+    ghost from_gives = { λ r a. a ≡ flat_of T.Flat.flat_record pair_answer_refused r };
+
+    #[tactic(auto, unfolding(crate::specs::Flat::flat_of))]
+    fn from(r: Result<T, Refusal>) -> Self {
+        match r {
+            Ok(x) => x.flat(),
+            Err(e) => e.into(),
+        }
     }
 }
 
@@ -175,16 +243,18 @@ pub fn hybit_word_contains_offset(word_index: u32, mask: u64, offset: usize) -> 
 
 // value: how many set bits stand below `offset`. Refuses 13 past 64.
 pub fn hybit_word_rank(word_index: u32, mask: u64, offset: usize) -> Answer
-    ensures { result ≡ flat_of_ranked (rank_answer mask offset) }
+    ensures { result ≡ flat_of_counted (rank_answer mask offset) }
 {
-    flat_ranked(AbtmTopologyWord::new(word_index, mask).rank(offset))
+    AbtmTopologyWord::new(word_index, mask).rank(offset).into()
 }
 
 // value: the set bit number `ordinal`, counted from 0; or none.
 pub fn hybit_word_select(word_index: u32, mask: u64, ordinal: usize) -> Answer
     ensures { result ≡ flat_of_selected (select_answer mask ordinal) }
 {
-    flat_selected(AbtmTopologyWord::new(word_index, mask).select(ordinal))
+    AbtmTopologyWord::new(word_index, mask)
+        .select(ordinal)
+        .flat()
 }
 
 // Checks a matrix: 1 to 8.
@@ -197,14 +267,16 @@ pub fn hybit_csr32_validate(
 ) -> Answer
     ensures { result ≡ flat_of_checked (matrix_check nrows ncols row_ptr.now col_idx.now values.now) }
 {
-    flat_checked(csr32::validate(nrows, ncols, row_ptr, col_idx, values))
+    views::matrix(nrows, ncols, row_ptr, col_idx, values)
+        .validate()
+        .into()
 }
 
 // Checks a mask: 1, 11, 12. A mask of `len` nodes has exactly `len` / 64 words, rounded up.
 pub fn hybit_mask_check(len: usize, words: &[u64]) -> Answer
     ensures { result ≡ flat_of_checked (mask_check len words.now) }
 {
-    flat_checked(mask::check(len, words))
+    views::mask(len, words).check().into()
 }
 
 // The empty mask in `out`, which needs its words. Refuses 1, 25.
@@ -212,7 +284,7 @@ pub fn hybit_mask_new(len: usize, out: &mut [u64]) -> Answer
     ensures value { result ≡ flat_of_checked (new_check len out.old) }
     ensures out_after { out.new ≡ new_words len out.old }
 {
-    flat_checked(mask::new(len, out))
+    mask::new(len, out).into()
 }
 
 // The mask of the indices in `out`, which needs its words. Refuses 1, 13, 25.
@@ -220,21 +292,21 @@ pub fn hybit_mask_from_indices(len: usize, indices: &[u64], out: &mut [u64]) -> 
     ensures value { result ≡ flat_of_checked (from_check len indices.now out.old) }
     ensures out_after { out.new ≡ from_words len indices.now out.old }
 {
-    flat_checked(mask::from_indices(len, indices, out))
+    mask::from_indices(len, indices, out).into()
 }
 
 // value: 1 if no node is set, else 0. Refuses as the check.
 pub fn hybit_mask_is_empty(len: usize, words: &[u64]) -> Answer
     ensures { result ≡ flat_of_truth (empty_answer len words.now) }
 {
-    flat_truth(mask::is_empty(len, words))
+    views::mask(len, words).is_empty().into()
 }
 
 // value: how many nodes are set. Refuses as the check.
 pub fn hybit_mask_count_ones(len: usize, words: &[u64]) -> Answer
     ensures { result ≡ flat_of_counted (count_answer len words.now) }
 {
-    flat_counted(mask::count_ones(len, words))
+    views::mask(len, words).count_ones().into()
 }
 
 // Sets or clears one node. Refuses as the check, then 13.
@@ -242,14 +314,14 @@ pub fn hybit_mask_set(len: usize, words: &mut [u64], index: u64, value: bool) ->
     ensures value { result ≡ flat_of_checked (set_check len words.old index) }
     ensures words_after { words.new ≡ set_words len words.old index value }
 {
-    flat_checked(mask::set(len, words, index, value))
+    mask::set(len, words, index, value).into()
 }
 
 // value: 1 if the node is set, else 0; past the length 0. Refuses as the check.
 pub fn hybit_mask_contains(len: usize, words: &[u64], index: u64) -> Answer
     ensures { result ≡ flat_of_truth (contains_answer len words.now index) }
 {
-    flat_truth(mask::contains(len, words, index))
+    views::mask(len, words).contains(index).into()
 }
 
 // Joins the other mask to the first. Refuses as the check, then for the other 11 (its length, its words), 12.
@@ -262,7 +334,7 @@ pub fn hybit_mask_union_assign(
     ensures value { result ≡ flat_of_checked (pair_check len words.old other_len other.now) }
     ensures words_after { words.new ≡ combined_words union len words.old other_len other.now }
 {
-    flat_checked(mask::union_assign(len, words, other_len, other))
+    mask::union_assign(len, words, views::mask(other_len, other)).into()
 }
 
 // Keeps the nodes that both have. Refuses as the union.
@@ -275,7 +347,7 @@ pub fn hybit_mask_intersect_assign(
     ensures value { result ≡ flat_of_checked (pair_check len words.old other_len other.now) }
     ensures words_after { words.new ≡ combined_words intersection len words.old other_len other.now }
 {
-    flat_checked(mask::intersect_assign(len, words, other_len, other))
+    mask::intersect_assign(len, words, views::mask(other_len, other)).into()
 }
 
 // Takes the other mask's nodes away. Refuses as the union.
@@ -288,14 +360,16 @@ pub fn hybit_mask_and_not_assign(
     ensures value { result ≡ flat_of_checked (pair_check len words.old other_len other.now) }
     ensures words_after { words.new ≡ combined_words and_not_of len words.old other_len other.now }
 {
-    flat_checked(mask::and_not_assign(len, words, other_len, other))
+    mask::and_not_assign(len, words, views::mask(other_len, other)).into()
 }
 
 // value: 1 if both have a node, else 0. Refuses as the union.
 pub fn hybit_mask_intersects(len: usize, words: &[u64], other_len: usize, other: &[u64]) -> Answer
     ensures { result ≡ flat_of_truth (intersects_answer len words.now other_len other.now) }
 {
-    flat_truth(mask::intersects(len, words, other_len, other))
+    views::mask(len, words)
+        .intersects(views::mask(other_len, other))
+        .into()
 }
 
 // The nodes in rising order in `out`, which needs one place for each; value: how many. Refuses as the check, then 25.
@@ -303,7 +377,7 @@ pub fn hybit_mask_indices(len: usize, words: &[u64], out: &mut [u64]) -> Answer
     ensures value { result ≡ flat_of_counted (indices_answer len words.now out.old) }
     ensures out_after { out.new ≡ indices_list len words.now out.old }
 {
-    flat_counted(mask::indices(len, words, out))
+    views::mask(len, words).indices(out).into()
 }
 
 // Sets the bits in one word; past the last word nothing changes, bits past the length are dropped. Refuses as the check.
@@ -311,5 +385,5 @@ pub fn hybit_mask_or_word(len: usize, words: &mut [u64], word_index: u64, bits: 
     ensures value { result ≡ flat_of_checked (mask_check len words.old) }
     ensures words_after { words.new ≡ or_word_words len words.old word_index bits }
 {
-    flat_checked(mask::or_word(len, words, word_index, bits))
+    mask::or_word(len, words, word_index, bits).into()
 }

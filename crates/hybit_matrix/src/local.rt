@@ -10,8 +10,9 @@ ghost use Rattle.gather.specs.Gather.{gather_check, gather_answer, gather_left};
 ghost use Rattle.hybit_matrix.specs.Flat.{flat_of_counted};
 ghost use Rattle.hybit_matrix.specs.FlatLocal.{flat_of_pattern, flat_of_plan};
 
-use crate::Answer;
+use crate::{Answer, views};
 use base::Refusal;
+use gather::GatherPlan;
 use numeric_plan::AbtmLocalNumericPlanStats;
 use pattern::AbtmLocalSubmatrixPatternStats;
 
@@ -51,75 +52,79 @@ pub struct PlanAnswer {
     pub plan_bytes: u64,
 }
 
-#[tactic(auto, unfolding(crate::specs::FlatLocal::flat_of_pattern))]
-fn flat_pattern(s: Result<AbtmLocalSubmatrixPatternStats, Refusal>) -> PatternAnswer
-    ensures { result ≡ flat_of_pattern s }
-{
-    match s {
-        Ok(x) => PatternAnswer {
-            number: 0,
-            present: true,
-            expected: 0,
-            actual: 0,
-            global_nodes: x.global_nodes as u64,
-            local_nodes: x.local_nodes as u64,
-            local_nnz: x.local_nnz as u64,
-            topology_words_visited: x.topology_words_visited as u64,
-            candidate_neighbor_bits: x.candidate_neighbor_bits as u64,
-            kept_neighbor_bits: x.kept_neighbor_bits as u64,
-            mapping_scratch_bytes: x.mapping_scratch_bytes as u64,
-            pattern_bytes: x.pattern_bytes as u64,
-            structural_pruning_ratio: x.structural_pruning_ratio(),
-            average_local_row_nnz: x.average_local_row_nnz(),
-        },
-        Err(r) => PatternAnswer {
-            number: r.number(),
-            present: false,
-            expected: r.expected(),
-            actual: r.actual(),
-            global_nodes: 0,
-            local_nodes: 0,
-            local_nnz: 0,
-            topology_words_visited: 0,
-            candidate_neighbor_bits: 0,
-            kept_neighbor_bits: 0,
-            mapping_scratch_bytes: 0,
-            pattern_bytes: 0,
-            structural_pruning_ratio: 0.0,
-            average_local_row_nnz: 0.0,
-        },
+impl From<Result<AbtmLocalSubmatrixPatternStats, Refusal>> for PatternAnswer {
+    ghost from_gives = { λ r a. a ≡ flat_of_pattern r };
+
+    #[tactic(auto, unfolding(crate::specs::FlatLocal::flat_of_pattern))]
+    fn from(s: Result<AbtmLocalSubmatrixPatternStats, Refusal>) -> Self {
+        match s {
+            Ok(x) => Self {
+                number: 0,
+                present: true,
+                expected: 0,
+                actual: 0,
+                global_nodes: x.global_nodes as u64,
+                local_nodes: x.local_nodes as u64,
+                local_nnz: x.local_nnz as u64,
+                topology_words_visited: x.topology_words_visited as u64,
+                candidate_neighbor_bits: x.candidate_neighbor_bits as u64,
+                kept_neighbor_bits: x.kept_neighbor_bits as u64,
+                mapping_scratch_bytes: x.mapping_scratch_bytes as u64,
+                pattern_bytes: x.pattern_bytes as u64,
+                structural_pruning_ratio: x.structural_pruning_ratio(),
+                average_local_row_nnz: x.average_local_row_nnz(),
+            },
+            Err(r) => Self {
+                number: r.number(),
+                present: false,
+                expected: r.expected(),
+                actual: r.actual(),
+                global_nodes: 0,
+                local_nodes: 0,
+                local_nnz: 0,
+                topology_words_visited: 0,
+                candidate_neighbor_bits: 0,
+                kept_neighbor_bits: 0,
+                mapping_scratch_bytes: 0,
+                pattern_bytes: 0,
+                structural_pruning_ratio: 0.0,
+                average_local_row_nnz: 0.0,
+            },
+        }
     }
 }
 
-#[tactic(auto, unfolding(crate::specs::FlatLocal::flat_of_plan))]
-fn flat_plan(s: Result<AbtmLocalNumericPlanStats, Refusal>) -> PlanAnswer
-    ensures { result ≡ flat_of_plan s }
-{
-    match s {
-        Ok(x) => PlanAnswer {
-            number: 0,
-            present: true,
-            expected: 0,
-            actual: 0,
-            local_nodes: x.local_nodes as u64,
-            local_nnz: x.local_nnz as u64,
-            source_terms: x.source_terms as u64,
-            duplicate_source_terms: x.duplicate_source_terms as u64,
-            direct_source_map: x.direct_source_map,
-            plan_bytes: x.plan_bytes as u64,
-        },
-        Err(r) => PlanAnswer {
-            number: r.number(),
-            present: false,
-            expected: r.expected(),
-            actual: r.actual(),
-            local_nodes: 0,
-            local_nnz: 0,
-            source_terms: 0,
-            duplicate_source_terms: 0,
-            direct_source_map: false,
-            plan_bytes: 0,
-        },
+impl From<Result<AbtmLocalNumericPlanStats, Refusal>> for PlanAnswer {
+    ghost from_gives = { λ r a. a ≡ flat_of_plan r };
+
+    #[tactic(auto, unfolding(crate::specs::FlatLocal::flat_of_plan))]
+    fn from(s: Result<AbtmLocalNumericPlanStats, Refusal>) -> Self {
+        match s {
+            Ok(x) => Self {
+                number: 0,
+                present: true,
+                expected: 0,
+                actual: 0,
+                local_nodes: x.local_nodes as u64,
+                local_nnz: x.local_nnz as u64,
+                source_terms: x.source_terms as u64,
+                duplicate_source_terms: x.duplicate_source_terms as u64,
+                direct_source_map: x.direct_source_map,
+                plan_bytes: x.plan_bytes as u64,
+            },
+            Err(r) => Self {
+                number: r.number(),
+                present: false,
+                expected: r.expected(),
+                actual: r.actual(),
+                local_nodes: 0,
+                local_nnz: 0,
+                source_terms: 0,
+                duplicate_source_terms: 0,
+                direct_source_map: false,
+                plan_bytes: 0,
+            },
+        }
     }
 }
 
@@ -149,25 +154,27 @@ pub fn hybit_extract_local_submatrix_pattern(
     ensures pointers { row_ptr.new ≡ ptr_left (pattern_check (topology_check nrows ncols row_word_ptr.now row_word_indices.now row_masks.now structural_nnz column_nrows column_ncols column_word_ptr.now column_word_indices.now column_masks.now column_structural_nnz) nrows ncols len words.now (side_holds row_word_ptr.now row_word_indices.now row_masks.now) global_nodes.old row_ptr.old col_idx.old) nrows (in_mask words.now) (side_holds row_word_ptr.now row_word_indices.now row_masks.now) row_ptr.old }
     ensures columns { col_idx.new ≡ columns_left (pattern_check (topology_check nrows ncols row_word_ptr.now row_word_indices.now row_masks.now structural_nnz column_nrows column_ncols column_word_ptr.now column_word_indices.now column_masks.now column_structural_nnz) nrows ncols len words.now (side_holds row_word_ptr.now row_word_indices.now row_masks.now) global_nodes.old row_ptr.old col_idx.old) nrows (in_mask words.now) (side_holds row_word_ptr.now row_word_indices.now row_masks.now) col_idx.old }
 {
-    flat_pattern(pattern::extract_local_submatrix_pattern(
-        nrows,
-        ncols,
-        row_word_ptr,
-        row_word_indices,
-        row_masks,
-        structural_nnz,
-        column_nrows,
-        column_ncols,
-        column_word_ptr,
-        column_word_indices,
-        column_masks,
-        column_structural_nnz,
-        len,
-        words,
+    pattern::extract_local_submatrix_pattern(
+        views::topology(
+            nrows,
+            ncols,
+            row_word_ptr,
+            row_word_indices,
+            row_masks,
+            structural_nnz,
+            column_nrows,
+            column_ncols,
+            column_word_ptr,
+            column_word_indices,
+            column_masks,
+            column_structural_nnz,
+        ),
+        views::mask(len, words),
         global_nodes,
         row_ptr,
         col_idx,
-    ))
+    )
+    .into()
 }
 
 // Pattern and plan: the pattern's lists, pairs + 1 source pointers, and one source for each entry inside. Refuses as the matrix, the topology, 22,
@@ -205,32 +212,30 @@ pub fn hybit_prepare_local_numeric_plan(
     ensures starts { source_ptr.new ≡ source_ptr_left (plan_check (plan_inputs (matrix_check matrix_nrows matrix_ncols row_ptr.now col_idx.now values.now) (topology_check nrows ncols row_word_ptr.now row_word_indices.now row_masks.now structural_nnz column_nrows column_ncols column_word_ptr.now column_word_indices.now column_masks.now column_structural_nnz) matrix_nrows matrix_ncols nrows ncols len words.now (side_holds row_word_ptr.now row_word_indices.now row_masks.now) (stored row_ptr.now col_idx.now)) nrows (in_mask words.now) (side_holds row_word_ptr.now row_word_indices.now row_masks.now) (pair_entries nrows (in_mask words.now) (side_holds row_word_ptr.now row_word_indices.now row_masks.now) row_ptr.now col_idx.now) global_nodes.old local_row_ptr.old local_col_idx.old source_ptr.old source_indices.old) (pair_entries nrows (in_mask words.now) (side_holds row_word_ptr.now row_word_indices.now row_masks.now) row_ptr.now col_idx.now) source_ptr.old }
     ensures sources { source_indices.new ≡ sources_left (plan_check (plan_inputs (matrix_check matrix_nrows matrix_ncols row_ptr.now col_idx.now values.now) (topology_check nrows ncols row_word_ptr.now row_word_indices.now row_masks.now structural_nnz column_nrows column_ncols column_word_ptr.now column_word_indices.now column_masks.now column_structural_nnz) matrix_nrows matrix_ncols nrows ncols len words.now (side_holds row_word_ptr.now row_word_indices.now row_masks.now) (stored row_ptr.now col_idx.now)) nrows (in_mask words.now) (side_holds row_word_ptr.now row_word_indices.now row_masks.now) (pair_entries nrows (in_mask words.now) (side_holds row_word_ptr.now row_word_indices.now row_masks.now) row_ptr.now col_idx.now) global_nodes.old local_row_ptr.old local_col_idx.old source_ptr.old source_indices.old) (pair_entries nrows (in_mask words.now) (side_holds row_word_ptr.now row_word_indices.now row_masks.now) row_ptr.now col_idx.now) source_indices.old }
 {
-    flat_plan(numeric_plan::prepare_local_numeric_plan(
-        nrows,
-        ncols,
-        row_word_ptr,
-        row_word_indices,
-        row_masks,
-        structural_nnz,
-        column_nrows,
-        column_ncols,
-        column_word_ptr,
-        column_word_indices,
-        column_masks,
-        column_structural_nnz,
-        matrix_nrows,
-        matrix_ncols,
-        row_ptr,
-        col_idx,
-        values,
-        len,
-        words,
+    numeric_plan::prepare_local_numeric_plan(
+        views::topology(
+            nrows,
+            ncols,
+            row_word_ptr,
+            row_word_indices,
+            row_masks,
+            structural_nnz,
+            column_nrows,
+            column_ncols,
+            column_word_ptr,
+            column_word_indices,
+            column_masks,
+            column_structural_nnz,
+        ),
+        views::matrix(matrix_nrows, matrix_ncols, row_ptr, col_idx, values),
+        views::mask(len, words),
         global_nodes,
         local_row_ptr,
         local_col_idx,
         source_ptr,
         source_indices,
-    ))
+    )
+    .into()
 }
 
 // One value for each pair of a plan in `out`; value: how many. `source_value_len`: the number of values that the plan was made for. Refuses 1,
@@ -245,11 +250,11 @@ pub fn hybit_gather_values(
     ensures value { result ≡ flat_of_counted (gather_answer (gather_check source_ptr.now source_indices.now source_value_len values.now out.old) source_ptr.now) }
     ensures out_after { out.new ≡ gather_left (gather_check source_ptr.now source_indices.now source_value_len values.now out.old) source_ptr.now source_indices.now values.now out.old }
 {
-    crate::flat_counted(gather::gather_values(
+    GatherPlan {
         source_ptr,
         source_indices,
         source_value_len,
-        values,
-        out,
-    ))
+    }
+    .gather_values(values, out)
+    .into()
 }

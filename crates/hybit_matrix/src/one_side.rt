@@ -8,13 +8,14 @@ ghost use Rattle.side.specs.Check.{side_check};
 ghost use Rattle.side.specs.Built.{built_ptr, built_words, built_masks};
 ghost use Rattle.side_sets.specs.Sets.{pairwise_pairs};
 ghost use Rattle.topology.specs.Answers.{build_check, sets_check, built_answer, stats_answer};
-ghost use Rattle.hybit_matrix.specs.Flat.{flat_of_checked};
+ghost use Rattle.hybit_matrix.specs.Flat.{pair_answer_of, flat_of_checked};
 ghost use Rattle.hybit_matrix.specs.FlatTopology.{flat_of_stated, flat_of_built};
 
-use crate::{Answer, PairAnswer};
+use crate::{Answer, Flat, PairAnswer, views};
 use base::Refusal;
 use side::SideCounts;
 use topology::AbtmTopologyStats;
+use word::Operation;
 
 // Counts, bytes and the three ratios; all 0 on a refusal.
 #[repr(C)]
@@ -34,50 +35,50 @@ pub struct TopologyStatsAnswer {
     pub metadata_bytes_per_nnz: f64,
 }
 
-#[tactic(auto, unfolding(crate::specs::FlatTopology::flat_of_stated))]
-fn flat_stated(s: Result<AbtmTopologyStats, Refusal>) -> TopologyStatsAnswer
-    ensures { result ≡ flat_of_stated s }
-{
-    match s {
-        Ok(x) => TopologyStatsAnswer {
-            number: 0,
-            present: true,
-            expected: 0,
-            actual: 0,
-            nrows: x.nrows as u64,
-            ncols: x.ncols as u64,
-            structural_nnz: x.structural_nnz as u64,
-            nonempty_words: x.nonempty_words as u64,
-            metadata_bytes: x.metadata_bytes as u64,
-            average_word_nnz: x.average_word_nnz(),
-            word_fill_ratio: x.word_fill_ratio(),
-            metadata_bytes_per_nnz: x.metadata_bytes_per_nnz(),
-        },
-        Err(r) => TopologyStatsAnswer {
-            number: r.number(),
-            present: false,
-            expected: r.expected(),
-            actual: r.actual(),
-            nrows: 0,
-            ncols: 0,
-            structural_nnz: 0,
-            nonempty_words: 0,
-            metadata_bytes: 0,
-            average_word_nnz: 0.0,
-            word_fill_ratio: 0.0,
-            metadata_bytes_per_nnz: 0.0,
-        },
+impl From<Result<AbtmTopologyStats, Refusal>> for TopologyStatsAnswer {
+    ghost from_gives = { λ r a. a ≡ flat_of_stated r };
+
+    #[tactic(auto, unfolding(crate::specs::FlatTopology::flat_of_stated))]
+    fn from(s: Result<AbtmTopologyStats, Refusal>) -> Self {
+        match s {
+            Ok(x) => Self {
+                number: 0,
+                present: true,
+                expected: 0,
+                actual: 0,
+                nrows: x.nrows as u64,
+                ncols: x.ncols as u64,
+                structural_nnz: x.structural_nnz as u64,
+                nonempty_words: x.nonempty_words as u64,
+                metadata_bytes: x.metadata_bytes as u64,
+                average_word_nnz: x.average_word_nnz(),
+                word_fill_ratio: x.word_fill_ratio(),
+                metadata_bytes_per_nnz: x.metadata_bytes_per_nnz(),
+            },
+            Err(r) => Self {
+                number: r.number(),
+                present: false,
+                expected: r.expected(),
+                actual: r.actual(),
+                nrows: 0,
+                ncols: 0,
+                structural_nnz: 0,
+                nonempty_words: 0,
+                metadata_bytes: 0,
+                average_word_nnz: 0.0,
+                word_fill_ratio: 0.0,
+                metadata_bytes_per_nnz: 0.0,
+            },
+        }
     }
 }
 
 // first and second: words and pairs.
-#[tactic(auto, unfolding(crate::specs::FlatTopology::flat_of_built))]
-fn flat_built(b: Result<SideCounts, Refusal>) -> PairAnswer
-    ensures { result ≡ flat_of_built b }
-{
-    match b {
-        Ok(x) => crate::layout::pair_with(x.words, x.pairs),
-        Err(r) => crate::layout::pair_refused(r),
+impl Flat<PairAnswer> for SideCounts {
+    ghost flat_record = { λ x. pair_answer_of x.words x.pairs };
+
+    fn flat(self) -> PairAnswer {
+        (self.words, self.pairs).flat()
     }
 }
 
@@ -92,14 +93,16 @@ pub fn hybit_topology_validate(
 ) -> Answer
     ensures { result ≡ flat_of_checked (side_check nrows ncols row_word_ptr.now word_indices.now masks.now structural_nnz) }
 {
-    crate::flat_checked(topology::validate(
+    views::side(
         nrows,
         ncols,
         row_word_ptr,
         word_indices,
         masks,
         structural_nnz,
-    ))
+    )
+    .validate()
+    .into()
 }
 
 // Counts, bytes and ratios of one side. Refuses 1, 9.
@@ -113,7 +116,7 @@ pub fn hybit_topology_stats(
 ) -> TopologyStatsAnswer
     ensures { result ≡ flat_of_stated (stats_answer nrows ncols row_word_ptr.now word_indices.now masks.now structural_nnz) }
 {
-    flat_stated(topology::stats(
+    topology::stats(views::side(
         nrows,
         ncols,
         row_word_ptr,
@@ -121,6 +124,7 @@ pub fn hybit_topology_stats(
         masks,
         structural_nnz,
     ))
+    .into()
 }
 
 // One side of a matrix's pairs: the lists need nrows + 1 pointers and as many words as entries, zero past its own; first and second: words and
@@ -140,17 +144,16 @@ pub fn hybit_topology_from_csr32(
     ensures words { word_indices.new ≡ built_words (build_check nrows ncols row_ptr.now col_idx.now values.now row_word_ptr.old word_indices.old masks.old) nrows ncols (stored row_ptr.now col_idx.now) (length col_idx.now) word_indices.old }
     ensures masked { masks.new ≡ built_masks (build_check nrows ncols row_ptr.now col_idx.now values.now row_word_ptr.old word_indices.old masks.old) nrows ncols (stored row_ptr.now col_idx.now) (length col_idx.now) masks.old }
 {
-    flat_built(topology::from_csr32(
-        nrows,
-        ncols,
-        row_ptr,
-        col_idx,
-        values,
+    topology::from_csr32(
+        views::matrix(nrows, ncols, row_ptr, col_idx, values),
         row_word_ptr,
         word_indices,
         masks,
-    ))
+    )
+    .into()
 }
+
+// The four set operations stay one function each: C names each, and what they share is one function of topology.
 
 // The pairs that both sides have: the lists need nrows + 1 pointers and as many words as both together, zero past its own; first and second:
 // words and pairs. Refuses 1, 9 for each, 22, 25.
@@ -176,23 +179,15 @@ pub fn hybit_topology_intersection(
     ensures words { word_indices.new ≡ built_words (sets_check nrows ncols ptr_a.now words_a.now masks_a.now pairs_a nrows_b ncols_b ptr_b.now words_b.now masks_b.now pairs_b row_word_ptr.old word_indices.old masks.old) nrows ncols (pairwise_pairs (on Operation.Intersection) (side_holds ptr_a.now words_a.now masks_a.now) (side_holds ptr_b.now words_b.now masks_b.now)) (length masks_a.now + length masks_b.now) word_indices.old }
     ensures masked { masks.new ≡ built_masks (sets_check nrows ncols ptr_a.now words_a.now masks_a.now pairs_a nrows_b ncols_b ptr_b.now words_b.now masks_b.now pairs_b row_word_ptr.old word_indices.old masks.old) nrows ncols (pairwise_pairs (on Operation.Intersection) (side_holds ptr_a.now words_a.now masks_a.now) (side_holds ptr_b.now words_b.now masks_b.now)) (length masks_a.now + length masks_b.now) masks.old }
 {
-    flat_built(topology::intersection(
-        nrows,
-        ncols,
-        ptr_a,
-        words_a,
-        masks_a,
-        pairs_a,
-        nrows_b,
-        ncols_b,
-        ptr_b,
-        words_b,
-        masks_b,
-        pairs_b,
+    topology::combine(
+        views::side(nrows, ncols, ptr_a, words_a, masks_a, pairs_a),
+        views::side(nrows_b, ncols_b, ptr_b, words_b, masks_b, pairs_b),
+        Operation::Intersection,
         row_word_ptr,
         word_indices,
         masks,
-    ))
+    )
+    .into()
 }
 
 // The pairs of either side; all else as the intersection.
@@ -218,23 +213,15 @@ pub fn hybit_topology_union(
     ensures words { word_indices.new ≡ built_words (sets_check nrows ncols ptr_a.now words_a.now masks_a.now pairs_a nrows_b ncols_b ptr_b.now words_b.now masks_b.now pairs_b row_word_ptr.old word_indices.old masks.old) nrows ncols (pairwise_pairs (on Operation.Union) (side_holds ptr_a.now words_a.now masks_a.now) (side_holds ptr_b.now words_b.now masks_b.now)) (length masks_a.now + length masks_b.now) word_indices.old }
     ensures masked { masks.new ≡ built_masks (sets_check nrows ncols ptr_a.now words_a.now masks_a.now pairs_a nrows_b ncols_b ptr_b.now words_b.now masks_b.now pairs_b row_word_ptr.old word_indices.old masks.old) nrows ncols (pairwise_pairs (on Operation.Union) (side_holds ptr_a.now words_a.now masks_a.now) (side_holds ptr_b.now words_b.now masks_b.now)) (length masks_a.now + length masks_b.now) masks.old }
 {
-    flat_built(topology::union(
-        nrows,
-        ncols,
-        ptr_a,
-        words_a,
-        masks_a,
-        pairs_a,
-        nrows_b,
-        ncols_b,
-        ptr_b,
-        words_b,
-        masks_b,
-        pairs_b,
+    topology::combine(
+        views::side(nrows, ncols, ptr_a, words_a, masks_a, pairs_a),
+        views::side(nrows_b, ncols_b, ptr_b, words_b, masks_b, pairs_b),
+        Operation::Union,
         row_word_ptr,
         word_indices,
         masks,
-    ))
+    )
+    .into()
 }
 
 // The pairs of the first side that the second lacks; all else as the intersection.
@@ -260,23 +247,15 @@ pub fn hybit_topology_and_not(
     ensures words { word_indices.new ≡ built_words (sets_check nrows ncols ptr_a.now words_a.now masks_a.now pairs_a nrows_b ncols_b ptr_b.now words_b.now masks_b.now pairs_b row_word_ptr.old word_indices.old masks.old) nrows ncols (pairwise_pairs (on Operation.AndNot) (side_holds ptr_a.now words_a.now masks_a.now) (side_holds ptr_b.now words_b.now masks_b.now)) (length masks_a.now + length masks_b.now) word_indices.old }
     ensures masked { masks.new ≡ built_masks (sets_check nrows ncols ptr_a.now words_a.now masks_a.now pairs_a nrows_b ncols_b ptr_b.now words_b.now masks_b.now pairs_b row_word_ptr.old word_indices.old masks.old) nrows ncols (pairwise_pairs (on Operation.AndNot) (side_holds ptr_a.now words_a.now masks_a.now) (side_holds ptr_b.now words_b.now masks_b.now)) (length masks_a.now + length masks_b.now) masks.old }
 {
-    flat_built(topology::and_not(
-        nrows,
-        ncols,
-        ptr_a,
-        words_a,
-        masks_a,
-        pairs_a,
-        nrows_b,
-        ncols_b,
-        ptr_b,
-        words_b,
-        masks_b,
-        pairs_b,
+    topology::combine(
+        views::side(nrows, ncols, ptr_a, words_a, masks_a, pairs_a),
+        views::side(nrows_b, ncols_b, ptr_b, words_b, masks_b, pairs_b),
+        Operation::AndNot,
         row_word_ptr,
         word_indices,
         masks,
-    ))
+    )
+    .into()
 }
 
 // The pairs that one side alone has; all else as the intersection.
@@ -302,21 +281,13 @@ pub fn hybit_topology_xor(
     ensures words { word_indices.new ≡ built_words (sets_check nrows ncols ptr_a.now words_a.now masks_a.now pairs_a nrows_b ncols_b ptr_b.now words_b.now masks_b.now pairs_b row_word_ptr.old word_indices.old masks.old) nrows ncols (pairwise_pairs (on Operation.Xor) (side_holds ptr_a.now words_a.now masks_a.now) (side_holds ptr_b.now words_b.now masks_b.now)) (length masks_a.now + length masks_b.now) word_indices.old }
     ensures masked { masks.new ≡ built_masks (sets_check nrows ncols ptr_a.now words_a.now masks_a.now pairs_a nrows_b ncols_b ptr_b.now words_b.now masks_b.now pairs_b row_word_ptr.old word_indices.old masks.old) nrows ncols (pairwise_pairs (on Operation.Xor) (side_holds ptr_a.now words_a.now masks_a.now) (side_holds ptr_b.now words_b.now masks_b.now)) (length masks_a.now + length masks_b.now) masks.old }
 {
-    flat_built(topology::xor(
-        nrows,
-        ncols,
-        ptr_a,
-        words_a,
-        masks_a,
-        pairs_a,
-        nrows_b,
-        ncols_b,
-        ptr_b,
-        words_b,
-        masks_b,
-        pairs_b,
+    topology::combine(
+        views::side(nrows, ncols, ptr_a, words_a, masks_a, pairs_a),
+        views::side(nrows_b, ncols_b, ptr_b, words_b, masks_b, pairs_b),
+        Operation::Xor,
         row_word_ptr,
         word_indices,
         masks,
-    ))
+    )
+    .into()
 }

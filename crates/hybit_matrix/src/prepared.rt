@@ -15,7 +15,7 @@ ghost use Rattle.peak_job.specs.Answer.{answer_text};
 ghost use Rattle.hybit_matrix.specs.Flat.{flat_of_counted};
 ghost use Rattle.hybit_matrix.specs.FlatPrepared.{flat_of_prepared};
 
-use crate::Answer;
+use crate::{Answer, views};
 use base::Refusal;
 use prepared_field_region::PreparedFieldAwareLocalRegion;
 
@@ -62,94 +62,96 @@ pub struct PreparedAnswer {
     pub plan_bytes: u32,
 }
 
-#[tactic(auto, unfolding(crate::specs::FlatPrepared::flat_of_prepared))]
-fn flat_prepared(s: Result<PreparedFieldAwareLocalRegion, Refusal>) -> PreparedAnswer
-    ensures { result ≡ flat_of_prepared s }
-{
-    match s {
-        Ok(x) => {
-            let counts = x.counts;
-            let topology = x.topology;
-            let growth = x.growth;
-            let pattern = x.pattern;
-            let numeric_plan = x.numeric_plan;
-            PreparedAnswer {
-                number: 0,
-                present: true,
-                expected: 0,
-                actual: 0,
-                row_words: counts.row_words,
-                column_words: counts.column_words,
-                pairs: counts.pairs,
-                topology_nrows: topology.nrows,
-                topology_ncols: topology.ncols,
-                structural_nnz: topology.structural_nnz,
-                row_metadata_bytes: topology.row_metadata_bytes,
-                column_metadata_bytes: topology.column_metadata_bytes,
-                hops_requested: growth.hops_requested,
-                hops_completed: growth.hops_completed,
-                seed_dofs: growth.seed_dofs,
-                block_closed_seed_dofs: growth.block_closed_seed_dofs,
-                region_dofs: growth.region_dofs,
-                region_blocks: growth.region_blocks,
-                frontier_dofs_visited: growth.frontier_dofs_visited,
-                row_words_visited: growth.row_words_visited,
-                column_words_visited: growth.column_words_visited,
-                candidate_neighbor_bits: growth.candidate_neighbor_bits,
-                global_nodes: pattern.global_nodes,
-                local_nodes: pattern.local_nodes,
-                local_nnz: pattern.local_nnz,
-                topology_words_visited: pattern.topology_words_visited,
-                pattern_candidate_bits: pattern.candidate_neighbor_bits,
-                kept_neighbor_bits: pattern.kept_neighbor_bits,
-                mapping_scratch_bytes: pattern.mapping_scratch_bytes,
-                pattern_bytes: pattern.pattern_bytes,
-                plan_local_nodes: numeric_plan.local_nodes,
-                plan_local_nnz: numeric_plan.local_nnz,
-                source_terms: numeric_plan.source_terms,
-                duplicate_source_terms: numeric_plan.duplicate_source_terms,
-                direct_source_map: numeric_plan.direct_source_map,
-                plan_bytes: numeric_plan.plan_bytes,
+impl From<Result<PreparedFieldAwareLocalRegion, Refusal>> for PreparedAnswer {
+    ghost from_gives = { λ r a. a ≡ flat_of_prepared r };
+
+    #[tactic(auto, unfolding(crate::specs::FlatPrepared::flat_of_prepared))]
+    fn from(s: Result<PreparedFieldAwareLocalRegion, Refusal>) -> Self {
+        match s {
+            Ok(x) => {
+                let counts = x.counts;
+                let topology = x.topology;
+                let growth = x.growth;
+                let pattern = x.pattern;
+                let numeric_plan = x.numeric_plan;
+                Self {
+                    number: 0,
+                    present: true,
+                    expected: 0,
+                    actual: 0,
+                    row_words: counts.row_words,
+                    column_words: counts.column_words,
+                    pairs: counts.pairs,
+                    topology_nrows: topology.nrows,
+                    topology_ncols: topology.ncols,
+                    structural_nnz: topology.structural_nnz,
+                    row_metadata_bytes: topology.row_metadata_bytes,
+                    column_metadata_bytes: topology.column_metadata_bytes,
+                    hops_requested: growth.hops_requested,
+                    hops_completed: growth.hops_completed,
+                    seed_dofs: growth.seed_dofs,
+                    block_closed_seed_dofs: growth.block_closed_seed_dofs,
+                    region_dofs: growth.region_dofs,
+                    region_blocks: growth.region_blocks,
+                    frontier_dofs_visited: growth.frontier_dofs_visited,
+                    row_words_visited: growth.row_words_visited,
+                    column_words_visited: growth.column_words_visited,
+                    candidate_neighbor_bits: growth.candidate_neighbor_bits,
+                    global_nodes: pattern.global_nodes,
+                    local_nodes: pattern.local_nodes,
+                    local_nnz: pattern.local_nnz,
+                    topology_words_visited: pattern.topology_words_visited,
+                    pattern_candidate_bits: pattern.candidate_neighbor_bits,
+                    kept_neighbor_bits: pattern.kept_neighbor_bits,
+                    mapping_scratch_bytes: pattern.mapping_scratch_bytes,
+                    pattern_bytes: pattern.pattern_bytes,
+                    plan_local_nodes: numeric_plan.local_nodes,
+                    plan_local_nnz: numeric_plan.local_nnz,
+                    source_terms: numeric_plan.source_terms,
+                    duplicate_source_terms: numeric_plan.duplicate_source_terms,
+                    direct_source_map: numeric_plan.direct_source_map,
+                    plan_bytes: numeric_plan.plan_bytes,
+                }
             }
+            Err(r) => Self {
+                number: r.number(),
+                present: false,
+                expected: r.expected(),
+                actual: r.actual(),
+                row_words: 0,
+                column_words: 0,
+                pairs: 0,
+                topology_nrows: 0,
+                topology_ncols: 0,
+                structural_nnz: 0,
+                row_metadata_bytes: 0,
+                column_metadata_bytes: 0,
+                hops_requested: 0,
+                hops_completed: 0,
+                seed_dofs: 0,
+                block_closed_seed_dofs: 0,
+                region_dofs: 0,
+                region_blocks: 0,
+                frontier_dofs_visited: 0,
+                row_words_visited: 0,
+                column_words_visited: 0,
+                candidate_neighbor_bits: 0,
+                global_nodes: 0,
+                local_nodes: 0,
+                local_nnz: 0,
+                topology_words_visited: 0,
+                pattern_candidate_bits: 0,
+                kept_neighbor_bits: 0,
+                mapping_scratch_bytes: 0,
+                pattern_bytes: 0,
+                plan_local_nodes: 0,
+                plan_local_nnz: 0,
+                source_terms: 0,
+                duplicate_source_terms: 0,
+                direct_source_map: false,
+                plan_bytes: 0,
+            },
         }
-        Err(r) => PreparedAnswer {
-            number: r.number(),
-            present: false,
-            expected: r.expected(),
-            actual: r.actual(),
-            row_words: 0,
-            column_words: 0,
-            pairs: 0,
-            topology_nrows: 0,
-            topology_ncols: 0,
-            structural_nnz: 0,
-            row_metadata_bytes: 0,
-            column_metadata_bytes: 0,
-            hops_requested: 0,
-            hops_completed: 0,
-            seed_dofs: 0,
-            block_closed_seed_dofs: 0,
-            region_dofs: 0,
-            region_blocks: 0,
-            frontier_dofs_visited: 0,
-            row_words_visited: 0,
-            column_words_visited: 0,
-            candidate_neighbor_bits: 0,
-            global_nodes: 0,
-            local_nodes: 0,
-            local_nnz: 0,
-            topology_words_visited: 0,
-            pattern_candidate_bits: 0,
-            kept_neighbor_bits: 0,
-            mapping_scratch_bytes: 0,
-            pattern_bytes: 0,
-            plan_local_nodes: 0,
-            plan_local_nnz: 0,
-            source_terms: 0,
-            duplicate_source_terms: 0,
-            direct_source_map: false,
-            plan_bytes: 0,
-        },
     }
 }
 
@@ -205,19 +207,10 @@ pub fn hybit_prepare_region(
     ensures source_pointers { source_ptr.new ≡ prepared_source_ptr (prepare_check (prepare_inputs (matrix_check nrows ncols row_ptr.now col_idx.now values.now) (square_check entity_kinds.now entity_ids.now field_ids.now components.now offsets.now nrows ncols) nrows len words.now) (prepare_room nrows ncols (length col_idx.now) (length row_word_ptr.old) (length row_word_indices.old) (length row_masks.old) (length column_word_ptr.old) (length column_word_indices.old) (length column_masks.old) (length starts.old) (length order.old) (length region.old) (length frontier.old) (length scratch.old) (length global_nodes.old) (length local_row_ptr.old) (length local_col_idx.old) (length source_ptr.old) (length source_indices.old))) (lists_of nrows (region_of row_ptr.now col_idx.now components.now words.now hops) row_ptr.now col_idx.now) (length col_idx.now) source_ptr.old }
     ensures sources { source_indices.new ≡ prepared_sources (prepare_check (prepare_inputs (matrix_check nrows ncols row_ptr.now col_idx.now values.now) (square_check entity_kinds.now entity_ids.now field_ids.now components.now offsets.now nrows ncols) nrows len words.now) (prepare_room nrows ncols (length col_idx.now) (length row_word_ptr.old) (length row_word_indices.old) (length row_masks.old) (length column_word_ptr.old) (length column_word_indices.old) (length column_masks.old) (length starts.old) (length order.old) (length region.old) (length frontier.old) (length scratch.old) (length global_nodes.old) (length local_row_ptr.old) (length local_col_idx.old) (length source_ptr.old) (length source_indices.old))) (lists_of nrows (region_of row_ptr.now col_idx.now components.now words.now hops) row_ptr.now col_idx.now) (length col_idx.now) source_indices.old }
 {
-    flat_prepared(prepared_field_region::prepare_region(
-        nrows,
-        ncols,
-        row_ptr,
-        col_idx,
-        values,
-        entity_kinds,
-        entity_ids,
-        field_ids,
-        components,
-        offsets,
-        len,
-        words,
+    prepared_field_region::prepare_region(
+        views::matrix(nrows, ncols, row_ptr, col_idx, values),
+        views::layout(entity_kinds, entity_ids, field_ids, components, offsets),
+        views::mask(len, words),
         hops,
         row_word_ptr,
         row_word_indices,
@@ -235,7 +228,8 @@ pub fn hybit_prepare_region(
         local_col_idx,
         source_ptr,
         source_indices,
-    ))
+    )
+    .into()
 }
 
 // As field_block_owners, on a matrix and its layout. Refuses as the matrix, the layout, 18, then as field_block_owners.
@@ -257,21 +251,14 @@ pub fn hybit_validate_block_owners(
     ensures value { result ≡ flat_of_counted (owners_answer (block_owners_check (matrix_check nrows ncols row_ptr.now col_idx.now values.now) (square_check entity_kinds.now entity_ids.now field_ids.now components.now offsets.now nrows ncols) (owners_check entity_kinds.now entity_ids.now field_ids.now components.now offsets.now dof_owners.now ranks out.old)) components.now) }
     ensures owned { out.new ≡ owners_list (block_owners_check (matrix_check nrows ncols row_ptr.now col_idx.now values.now) (square_check entity_kinds.now entity_ids.now field_ids.now components.now offsets.now nrows ncols) (owners_check entity_kinds.now entity_ids.now field_ids.now components.now offsets.now dof_owners.now ranks out.old)) components.now dof_owners.now out.old }
 {
-    crate::flat_counted(prepared_field_region::validate_block_owners(
-        nrows,
-        ncols,
-        row_ptr,
-        col_idx,
-        values,
-        entity_kinds,
-        entity_ids,
-        field_ids,
-        components,
-        offsets,
+    prepared_field_region::validate_block_owners(
+        views::matrix(nrows, ncols, row_ptr, col_idx, values),
+        views::layout(entity_kinds, entity_ids, field_ids, components, offsets),
         dof_owners,
         ranks,
         out,
-    ))
+    )
+    .into()
 }
 
 // A job's text in, the answer's text out, a refused job's too; value: its length in bytes. Refuses 25 alone.
@@ -279,5 +266,5 @@ pub fn hybit_peak_job(input: &[u8], out: &mut [u8]) -> Answer
     ensures value { result ≡ flat_of_counted (text_answer (answer_text input.now) out.old) }
     ensures out_after { out.new ≡ text_left (answer_text input.now) out.old }
 {
-    crate::flat_counted(peak_job::run(input, out))
+    peak_job::run(input, out).into()
 }

@@ -14,7 +14,7 @@ ghost use Rattle.multiplicity.specs.Multiplicity.{multiplicity_check, multiplici
 ghost use Rattle.hybit_matrix.specs.Flat.{flat_of_counted};
 ghost use Rattle.hybit_matrix.specs.FlatRegions.{flat_of_grown, flat_of_field_grown, flat_of_regions};
 
-use crate::Answer;
+use crate::{Answer, views};
 use base::Refusal;
 use field_region::FieldAwareRegionStats;
 use multiplicity::AbtmRegionMultiplicityStats;
@@ -80,123 +80,129 @@ pub struct MultiplicityAnswer {
     pub overlap_fraction_on_covered: f64,
 }
 
-#[tactic(auto, unfolding(crate::specs::FlatRegions::flat_of_grown))]
-fn flat_grown(s: Result<AbtmRegionGrowthStats, Refusal>) -> GrowthAnswer
-    ensures { result ≡ flat_of_grown s }
-{
-    match s {
-        Ok(x) => GrowthAnswer {
-            number: 0,
-            present: true,
-            expected: 0,
-            actual: 0,
-            hops_requested: x.hops_requested,
-            hops_completed: x.hops_completed,
-            seed_nodes: x.seed_nodes,
-            region_nodes: x.region_nodes,
-            frontier_nodes_visited: x.frontier_nodes_visited,
-            row_words_visited: x.row_words_visited,
-            column_words_visited: x.column_words_visited,
-            candidate_neighbor_bits: x.candidate_neighbor_bits,
-            topology_words_visited: x.topology_words_visited(),
-            new_nodes: x.new_nodes(),
-        },
-        Err(r) => GrowthAnswer {
-            number: r.number(),
-            present: false,
-            expected: r.expected(),
-            actual: r.actual(),
-            hops_requested: 0,
-            hops_completed: 0,
-            seed_nodes: 0,
-            region_nodes: 0,
-            frontier_nodes_visited: 0,
-            row_words_visited: 0,
-            column_words_visited: 0,
-            candidate_neighbor_bits: 0,
-            topology_words_visited: 0,
-            new_nodes: 0,
-        },
+impl From<Result<AbtmRegionGrowthStats, Refusal>> for GrowthAnswer {
+    ghost from_gives = { λ r a. a ≡ flat_of_grown r };
+
+    #[tactic(auto, unfolding(crate::specs::FlatRegions::flat_of_grown))]
+    fn from(s: Result<AbtmRegionGrowthStats, Refusal>) -> Self {
+        match s {
+            Ok(x) => Self {
+                number: 0,
+                present: true,
+                expected: 0,
+                actual: 0,
+                hops_requested: x.hops_requested,
+                hops_completed: x.hops_completed,
+                seed_nodes: x.seed_nodes,
+                region_nodes: x.region_nodes,
+                frontier_nodes_visited: x.frontier_nodes_visited,
+                row_words_visited: x.row_words_visited,
+                column_words_visited: x.column_words_visited,
+                candidate_neighbor_bits: x.candidate_neighbor_bits,
+                topology_words_visited: x.topology_words_visited(),
+                new_nodes: x.new_nodes(),
+            },
+            Err(r) => Self {
+                number: r.number(),
+                present: false,
+                expected: r.expected(),
+                actual: r.actual(),
+                hops_requested: 0,
+                hops_completed: 0,
+                seed_nodes: 0,
+                region_nodes: 0,
+                frontier_nodes_visited: 0,
+                row_words_visited: 0,
+                column_words_visited: 0,
+                candidate_neighbor_bits: 0,
+                topology_words_visited: 0,
+                new_nodes: 0,
+            },
+        }
     }
 }
 
-#[tactic(auto, unfolding(crate::specs::FlatRegions::flat_of_field_grown))]
-fn flat_field_grown(s: Result<FieldAwareRegionStats, Refusal>) -> FieldGrowthAnswer
-    ensures { result ≡ flat_of_field_grown s }
-{
-    match s {
-        Ok(x) => FieldGrowthAnswer {
-            number: 0,
-            present: true,
-            expected: 0,
-            actual: 0,
-            hops_requested: x.hops_requested,
-            hops_completed: x.hops_completed,
-            seed_dofs: x.seed_dofs,
-            block_closed_seed_dofs: x.block_closed_seed_dofs,
-            region_dofs: x.region_dofs,
-            region_blocks: x.region_blocks,
-            frontier_dofs_visited: x.frontier_dofs_visited,
-            row_words_visited: x.row_words_visited,
-            column_words_visited: x.column_words_visited,
-            candidate_neighbor_bits: x.candidate_neighbor_bits,
-        },
-        Err(r) => FieldGrowthAnswer {
-            number: r.number(),
-            present: false,
-            expected: r.expected(),
-            actual: r.actual(),
-            hops_requested: 0,
-            hops_completed: 0,
-            seed_dofs: 0,
-            block_closed_seed_dofs: 0,
-            region_dofs: 0,
-            region_blocks: 0,
-            frontier_dofs_visited: 0,
-            row_words_visited: 0,
-            column_words_visited: 0,
-            candidate_neighbor_bits: 0,
-        },
+impl From<Result<FieldAwareRegionStats, Refusal>> for FieldGrowthAnswer {
+    ghost from_gives = { λ r a. a ≡ flat_of_field_grown r };
+
+    #[tactic(auto, unfolding(crate::specs::FlatRegions::flat_of_field_grown))]
+    fn from(s: Result<FieldAwareRegionStats, Refusal>) -> Self {
+        match s {
+            Ok(x) => Self {
+                number: 0,
+                present: true,
+                expected: 0,
+                actual: 0,
+                hops_requested: x.hops_requested,
+                hops_completed: x.hops_completed,
+                seed_dofs: x.seed_dofs,
+                block_closed_seed_dofs: x.block_closed_seed_dofs,
+                region_dofs: x.region_dofs,
+                region_blocks: x.region_blocks,
+                frontier_dofs_visited: x.frontier_dofs_visited,
+                row_words_visited: x.row_words_visited,
+                column_words_visited: x.column_words_visited,
+                candidate_neighbor_bits: x.candidate_neighbor_bits,
+            },
+            Err(r) => Self {
+                number: r.number(),
+                present: false,
+                expected: r.expected(),
+                actual: r.actual(),
+                hops_requested: 0,
+                hops_completed: 0,
+                seed_dofs: 0,
+                block_closed_seed_dofs: 0,
+                region_dofs: 0,
+                region_blocks: 0,
+                frontier_dofs_visited: 0,
+                row_words_visited: 0,
+                column_words_visited: 0,
+                candidate_neighbor_bits: 0,
+            },
+        }
     }
 }
 
-#[tactic(auto, unfolding(crate::specs::FlatRegions::flat_of_regions))]
-fn flat_regions(s: Result<AbtmRegionMultiplicityStats, Refusal>) -> MultiplicityAnswer
-    ensures { result ≡ flat_of_regions s }
-{
-    match s {
-        Ok(x) => MultiplicityAnswer {
-            number: 0,
-            present: true,
-            expected: 0,
-            actual: 0,
-            region_count: x.region_count,
-            node_count: x.node_count,
-            total_memberships: x.total_memberships,
-            covered_nodes: x.covered_nodes,
-            overlap_nodes: x.overlap_nodes,
-            max_multiplicity: x.max_multiplicity as u64,
-            pair_overlap_memberships: x.pair_overlap_memberships,
-            extra_memberships: x.extra_memberships,
-            average_multiplicity_on_covered: x.average_multiplicity_on_covered,
-            overlap_fraction_on_covered: x.overlap_fraction_on_covered,
-        },
-        Err(r) => MultiplicityAnswer {
-            number: r.number(),
-            present: false,
-            expected: r.expected(),
-            actual: r.actual(),
-            region_count: 0,
-            node_count: 0,
-            total_memberships: 0,
-            covered_nodes: 0,
-            overlap_nodes: 0,
-            max_multiplicity: 0,
-            pair_overlap_memberships: 0,
-            extra_memberships: 0,
-            average_multiplicity_on_covered: 0.0,
-            overlap_fraction_on_covered: 0.0,
-        },
+impl From<Result<AbtmRegionMultiplicityStats, Refusal>> for MultiplicityAnswer {
+    ghost from_gives = { λ r a. a ≡ flat_of_regions r };
+
+    #[tactic(auto, unfolding(crate::specs::FlatRegions::flat_of_regions))]
+    fn from(s: Result<AbtmRegionMultiplicityStats, Refusal>) -> Self {
+        match s {
+            Ok(x) => Self {
+                number: 0,
+                present: true,
+                expected: 0,
+                actual: 0,
+                region_count: x.region_count,
+                node_count: x.node_count,
+                total_memberships: x.total_memberships,
+                covered_nodes: x.covered_nodes,
+                overlap_nodes: x.overlap_nodes,
+                max_multiplicity: x.max_multiplicity as u64,
+                pair_overlap_memberships: x.pair_overlap_memberships,
+                extra_memberships: x.extra_memberships,
+                average_multiplicity_on_covered: x.average_multiplicity_on_covered,
+                overlap_fraction_on_covered: x.overlap_fraction_on_covered,
+            },
+            Err(r) => Self {
+                number: r.number(),
+                present: false,
+                expected: r.expected(),
+                actual: r.actual(),
+                region_count: 0,
+                node_count: 0,
+                total_memberships: 0,
+                covered_nodes: 0,
+                overlap_nodes: 0,
+                max_multiplicity: 0,
+                pair_overlap_memberships: 0,
+                extra_memberships: 0,
+                average_multiplicity_on_covered: 0.0,
+                overlap_fraction_on_covered: 0.0,
+            },
+        }
     }
 }
 
@@ -227,26 +233,28 @@ pub fn hybit_grow_undirected_region(
     ensures edge { frontier.new ≡ frontier_left (grow_check (topology_check nrows ncols row_word_ptr.now row_word_indices.now row_masks.now structural_nnz column_nrows column_ncols column_word_ptr.now column_word_indices.now column_masks.now column_structural_nnz) nrows ncols len words.now region.old frontier.old scratch.old) (plain_network nrows (side_holds row_word_ptr.now row_word_indices.now row_masks.now)) words.now hops frontier.old }
     ensures spent { scratch.new ≡ scratch_left (grow_check (topology_check nrows ncols row_word_ptr.now row_word_indices.now row_masks.now structural_nnz column_nrows column_ncols column_word_ptr.now column_word_indices.now column_masks.now column_structural_nnz) nrows ncols len words.now region.old frontier.old scratch.old) nrows scratch.old }
 {
-    flat_grown(region::grow_undirected_region(
-        nrows,
-        ncols,
-        row_word_ptr,
-        row_word_indices,
-        row_masks,
-        structural_nnz,
-        column_nrows,
-        column_ncols,
-        column_word_ptr,
-        column_word_indices,
-        column_masks,
-        column_structural_nnz,
-        len,
-        words,
+    region::grow_undirected_region(
+        views::topology(
+            nrows,
+            ncols,
+            row_word_ptr,
+            row_word_indices,
+            row_masks,
+            structural_nnz,
+            column_nrows,
+            column_ncols,
+            column_word_ptr,
+            column_word_indices,
+            column_masks,
+            column_structural_nnz,
+        ),
+        views::mask(len, words),
         hops,
         region,
         frontier,
         scratch,
-    ))
+    )
+    .into()
 }
 
 // The same by whole blocks of the layout. Refuses as the topology, the layout, 18, 11, 12 for the seeds, 25.
@@ -280,31 +288,29 @@ pub fn hybit_grow_field_aware_region(
     ensures edge { frontier.new ≡ frontier_left (field_grow_check (topology_check nrows ncols row_word_ptr.now row_word_indices.now row_masks.now structural_nnz column_nrows column_ncols column_word_ptr.now column_word_indices.now column_masks.now column_structural_nnz) (square_check entity_kinds.now entity_ids.now field_ids.now components.now offsets.now nrows ncols) (total_of components.now) len words.now region.old frontier.old scratch.old) (field_network components.now (side_holds row_word_ptr.now row_word_indices.now row_masks.now)) words.now hops frontier.old }
     ensures spent { scratch.new ≡ scratch_left (field_grow_check (topology_check nrows ncols row_word_ptr.now row_word_indices.now row_masks.now structural_nnz column_nrows column_ncols column_word_ptr.now column_word_indices.now column_masks.now column_structural_nnz) (square_check entity_kinds.now entity_ids.now field_ids.now components.now offsets.now nrows ncols) (total_of components.now) len words.now region.old frontier.old scratch.old) (total_of components.now) scratch.old }
 {
-    flat_field_grown(field_region::grow_field_aware_region(
-        nrows,
-        ncols,
-        row_word_ptr,
-        row_word_indices,
-        row_masks,
-        structural_nnz,
-        column_nrows,
-        column_ncols,
-        column_word_ptr,
-        column_word_indices,
-        column_masks,
-        column_structural_nnz,
-        entity_kinds,
-        entity_ids,
-        field_ids,
-        components,
-        offsets,
-        len,
-        words,
+    field_region::grow_field_aware_region(
+        views::topology(
+            nrows,
+            ncols,
+            row_word_ptr,
+            row_word_indices,
+            row_masks,
+            structural_nnz,
+            column_nrows,
+            column_ncols,
+            column_word_ptr,
+            column_word_indices,
+            column_masks,
+            column_structural_nnz,
+        ),
+        views::layout(entity_kinds, entity_ids, field_ids, components, offsets),
+        views::mask(len, words),
         hops,
         region,
         frontier,
         scratch,
-    ))
+    )
+    .into()
 }
 
 // The whole blocks of the nodes in `out`, a mask of the total; value: the total. Refuses as the layout, 11, 12 for the mask, 25.
@@ -321,16 +327,12 @@ pub fn hybit_close_to_field_blocks(
     ensures value { result ≡ flat_of_counted (close_answer (close_check entity_kinds.now entity_ids.now field_ids.now components.now offsets.now len words.now out.old) len) }
     ensures out_after { out.new ≡ close_words (close_check entity_kinds.now entity_ids.now field_ids.now components.now offsets.now len words.now out.old) components.now words.now out.old }
 {
-    crate::flat_counted(field_region::close_to_field_blocks(
-        entity_kinds,
-        entity_ids,
-        field_ids,
-        components,
-        offsets,
-        len,
-        words,
+    field_region::close_to_field_blocks(
+        views::layout(entity_kinds, entity_ids, field_ids, components, offsets),
+        views::mask(len, words),
         out,
-    ))
+    )
+    .into()
 }
 
 // The owner of each block in `out`, which needs one place for each; value: how many. Refuses as the layout, 11, 19, by block 20, 21, then 25.
@@ -347,16 +349,13 @@ pub fn hybit_field_block_owners(
     ensures value { result ≡ flat_of_counted (owners_answer (owners_check entity_kinds.now entity_ids.now field_ids.now components.now offsets.now dof_owners.now ranks out.old) components.now) }
     ensures out_after { out.new ≡ owners_list (owners_check entity_kinds.now entity_ids.now field_ids.now components.now offsets.now dof_owners.now ranks out.old) components.now dof_owners.now out.old }
 {
-    crate::flat_counted(field_region::field_block_owners(
-        entity_kinds,
-        entity_ids,
-        field_ids,
-        components,
-        offsets,
+    field_region::field_block_owners(
+        views::layout(entity_kinds, entity_ids, field_ids, components, offsets),
         dof_owners,
         ranks,
         out,
-    ))
+    )
+    .into()
 }
 
 // How many regions hold each node, in `counts`, which needs one place for each node. `words`: the masks of the regions one after the other.
@@ -370,7 +369,7 @@ pub fn hybit_region_multiplicity(
     ensures value { result ≡ flat_of_regions (multiplicity_answer (multiplicity_check node_count region_count words.now counts.old) node_count region_count words.now) }
     ensures counts_after { counts.new ≡ multiplicity_counts (multiplicity_check node_count region_count words.now counts.old) node_count region_count words.now counts.old }
 {
-    flat_regions(multiplicity::region_multiplicity(node_count, region_count, words, counts))
+    multiplicity::region_multiplicity(node_count, region_count, words, counts).into()
 }
 
 // value: the region's weight at a node, 65,536 divided by the node's multiplicity, rounded down; 0 where it does not hold it. Refuses 1, 11, 12, 13.
@@ -383,5 +382,5 @@ pub fn hybit_weight(
 ) -> Answer
     ensures { result ≡ flat_of_counted (weight_answer node_count region_count words.now region node) }
 {
-    crate::flat_counted(multiplicity::weight(node_count, region_count, words, region, node))
+    multiplicity::weight(node_count, region_count, words, region, node).into()
 }

@@ -10,7 +10,7 @@ ghost use Rattle.word.specs.Answers as word;
 ghost use Rattle.csr32.specs.Matrix.{matrix_check};
 ghost use Rattle.mask.specs.Mask.{mask_check};
 ghost use Rattle.mask.specs.Answers.{new_check, new_words, from_check, from_words, empty_answer, count_answer, contains_answer, set_check, set_words, pair_check, combined_words, union, intersection, and_not_of, intersects_answer, indices_answer, indices_list, or_word_words};
-ghost use Rattle.hybit_matrix.specs.Flat.{flat_of_checked, flat_of_truth, flat_of_counted, flat_of_ranked, flat_of_selected};
+ghost use Rattle.hybit_matrix.specs.Flat.{flat_of_checked, flat_of_truth, flat_of_counted, flat_of_selected};
 
 use hybit_matrix::Answer;
 
@@ -72,7 +72,7 @@ pub extern "C" fn hybit_word_contains_offset(word_index: u32, mask: u64, offset:
 // value: how many set bits stand below `offset`. Refuses 13 past 64.
 #[unsafe(no_mangle)]
 pub extern "C" fn hybit_word_rank(word_index: u32, mask: u64, offset: usize) -> Answer
-    ensures { result ≡ flat_of_ranked (rank_answer mask offset) }
+    ensures { result ≡ flat_of_counted (rank_answer mask offset) }
 {
     hybit_matrix::hybit_word_rank(word_index, mask, offset)
 }

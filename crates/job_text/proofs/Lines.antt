@@ -7,7 +7,8 @@ use lib.ListN.{length, length-append}
 use Rattle.base.specs.Lists.{over, placed}
 use Rattle.base.proofs.Lists.{placed-over}
 use Rattle.text_writing.specs.Text.{decimal, numbers, line}
-use Rattle.text_writing.proofs.Lists.{length-line}
+use Rattle.text_writing.proofs.Digits.{decimal-most}
+use Rattle.text_writing.proofs.Lists.{length-line, numbers-most}
 use Rattle.job_text.specs.Answer.{region_key, frontier_key, completed_key, local_ptr_key, local_cols_key, result_lines}
 
 -- from the front on
@@ -65,3 +66,8 @@ module _ (region frontier : List ℕ) (completed : ℕ) (ptr cols : List ℕ) wh
       append_assoc (line1 ++ line2 ++ line3) line4 line5
       ∙ append_assoc (line1 ++ line2) line3 (line4 ++ line5)
       ∙ append_assoc line1 line2 (line3 ++ (line4 ++ line5))
+
+-- what decides how long the lines are, and that each has room
+pub ruleset lengths = (numbers-most, decimal-most, lines-length)
+
+pub ruleset sums = (lines-sum)

@@ -1,18 +1,48 @@
--- From one line of a text to the next. Assumes nothing.
-use mathlib.Core.Path.{◌≡◌, sym, ap, ◌∙◌}
+-- What is read of a text line by line is what the whole says. Assumes nothing.
+use mathlib.Core.Path.{◌≡◌, refl, ap, ap₂, ◌∙◌}
+use mathlib.Core.Bool.{Bool, true, false, ◌&&◌, and-true, and-false}
 use mathlib.Core.List.{List}
-use Prim.Native.Nat.{ℕ, suc, ◌+◌, ◌-◌}
-use native.Mathlib.Omega.{arith}
-use lib.ListN.{length, take, drop, length-drop}
-use lib.Seq.{take_all, drop-drop}
-use Rattle.text_writing.specs.Text.{newline}
-use Rattle.text_reading.specs.Reading.{behind, from_line}
+use Prim.Native.Nat.{ℕ}
+use lib.Dec.{eqb, leb}
+use lib.ListN.{length}
+use Rattle.std.specs.Bool.{then_some}
+use Rattle.text_reading.specs.Reading.{from_line}
+use Rattle.job_text.specs.Job.{size_key, blocks_key, ptr_key, cols_key, seeds_key, hops_key, text_limit, most64, most32, number_at, list_found_at, is_job, figures_read}
 
--- the part from a place on is what is left there
-pub part-rest : (t : List ℕ) (a : ℕ) → take (length t - a) (drop a t) ≡ drop a t
-part-rest t a = take_all (length t - a) (drop a t) (omega (arith, length-drop a t))
+-- figures that are each there under a condition are all there under all of them
+pub figures-all :
+    (a b c d e f : Bool) (size blocks pointers columns seeds hops : ℕ)
+    → figures_read (then_some a size) (then_some b blocks) (then_some c pointers) (then_some d columns) (then_some e seeds) (then_some f hops)
+    ≡ then_some (a && b && c && d && e && f) (record { size = size; blocks = blocks; pointers = pointers; columns = columns; seeds = seeds; hops = hops })
+figures-all false b c d e f size blocks pointers columns seeds hops = refl
+figures-all true false c d e f size blocks pointers columns seeds hops = refl
+figures-all true true false d e f size blocks pointers columns seeds hops = refl
+figures-all true true true false e f size blocks pointers columns seeds hops = refl
+figures-all true true true true false f size blocks pointers columns seeds hops = refl
+figures-all true true true true true false size blocks pointers columns seeds hops = refl
+figures-all true true true true true true size blocks pointers columns seeds hops = refl
 
--- line k + 1 starts behind the newline of line k
-pub line-next : (t : List ℕ) (k a n : ℕ) (T : List ℕ) → T ≡ drop a t → drop a t ≡ from_line k t → drop n T ≡ behind newline T → drop (a + n) t ≡ from_line (suc k) t
-unfolding from_line
-line-next t k a n T e l b = sym (drop-drop n a t) ∙ ap (drop n) (sym e) ∙ b ∙ ap (behind newline) (e ∙ l)
+-- the six lines are those of a job
+abbrev pub six_lines : List ℕ → Bool
+six_lines t = number_at 0 size_key most64 t && list_found_at 1 blocks_key most32 t && list_found_at 2 ptr_key most32 t && list_found_at 3 cols_key most32 t && list_found_at 4 seeds_key most64 t && number_at 5 hops_key most64 t
+
+module _ (t : List ℕ) where
+  job-parts : is_job t ≡ (leb (length t) text_limit && six_lines t && eqb (length (from_line 6 t)) 0)
+  unfolding is_job
+  job-parts = go (leb (length t) text_limit)
+    where
+      go :
+          (few : Bool)
+          → (few && number_at 0 size_key most64 t && list_found_at 1 blocks_key most32 t && list_found_at 2 ptr_key most32 t && list_found_at 3 cols_key most32 t && list_found_at 4 seeds_key most64 t && number_at 5 hops_key most64 t && eqb (length (from_line 6 t)) 0)
+          ≡ (few && six_lines t && eqb (length (from_line 6 t)) 0)
+      go true = refl
+      go false = refl
+
+  pub job-whole : leb (length t) text_limit ≡ true → eqb (length (from_line 6 t)) 0 ≡ true → is_job t ≡ six_lines t
+  job-whole few end = job-parts ∙ ap₂ (λ (a b : Bool). a && six_lines t && b) few end ∙ and-true (six_lines t)
+
+  pub job-long : leb (length t) text_limit ≡ false → is_job t ≡ false
+  job-long long = job-parts ∙ ap (λ (a : Bool). a && six_lines t && eqb (length (from_line 6 t)) 0) long
+
+  pub job-more : eqb (length (from_line 6 t)) 0 ≡ false → is_job t ≡ false
+  job-more more = job-parts ∙ ap (λ (b : Bool). leb (length t) text_limit && six_lines t && b) more ∙ and-false (leb (length t) text_limit && six_lines t)

@@ -3,7 +3,7 @@ use Rattle.std.specs.Prelude.{List, [], ◌∷◌, ◌++◌, ℕ, leb, length}
 use Rattle.std.specs.Prelude.{Result}
 use Rattle.base.specs.Checks.{refusal_number, Check, answer}
 use Rattle.base.specs.declared.Refusal.TheVariants.{ListTooShort}
-use Rattle.base.specs.Checks.{must, after, leaves}
+use Rattle.base.specs.Checks.{must, leaves}
 use Rattle.base.specs.Lists.{over}
 use Rattle.base.specs.declared.Refusal.{Refusal}
 use Rattle.text_writing.specs.Text.{decimal, numbers, line}

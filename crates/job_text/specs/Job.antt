@@ -1,9 +1,12 @@
 -- The job of document 01: what it asks, and its text. Lines of key=value in the order size, blocks, ptr, cols, seeds, hops; size, seeds and hops
 -- have 64 bits, the others 32; at most 16,384 bytes.
 use Rattle.std.specs.Prelude.{Bool, ◌&&◌, List, [], ◌∷◌, ◌++◌, ℕ, eqb, leb, length}
+use Rattle.std.specs.Prelude.{Option, Some, None}
+use Rattle.std.specs.Bool.{then_some}
 use Rattle.base.specs.Lists.{every}
 use Rattle.text_writing.specs.Text.{decimal, numbers, line}
 use Rattle.text_reading.specs.Reading.{is_number, number_of, is_list, list_of, is_line, value_of, from_line}
+use Rattle.job_text.specs.declared.JobRead.{JobRead}
 
 -- blocks are their component counts; ptr and cols are the matrix's
 pub record Job : Type 0 where
@@ -107,3 +110,17 @@ job_of t =
       seeds = list_of most64 (value_of seeds_key (from_line 4 t));
       hops = number_of most64 (value_of hops_key (from_line 5 t));
     }
+
+-- its numbers, and how long its lists are
+abbrev pub figures_of : Job → JobRead
+figures_of j = record { size = j.size; blocks = length j.blocks; pointers = length j.ptr; columns = length j.cols; seeds = length j.seeds; hops = j.hops }
+
+-- the figures of the job, if the text is one
+abbrev pub job_found : List ℕ → Option JobRead
+job_found t = then_some (is_job t) (figures_of (job_of t))
+
+-- the figures, if each of them is there
+abbrev pub figures_read : Option ℕ → Option ℕ → Option ℕ → Option ℕ → Option ℕ → Option ℕ → Option JobRead
+figures_read (Some size) (Some blocks) (Some pointers) (Some columns) (Some seeds) (Some hops) =
+    Some (record { size = size; blocks = blocks; pointers = pointers; columns = columns; seeds = seeds; hops = hops })
+figures_read _ _ _ _ _ _ = None

@@ -3,24 +3,13 @@
 
 pub mod inner;
 
-// Whether a text is a job, its two numbers, and how long its four lists are.
+// A job's two numbers, and how long its four lists are: numbers and no slices, since a list may be longer than the one that it is read into.
 #[derive(Clone, Copy)]
 pub struct JobRead {
-    pub good: bool,
     pub size: u64,
     pub blocks: usize,
     pub pointers: usize,
     pub columns: usize,
     pub seeds: usize,
     pub hops: u64,
-}
-
-// The lines of blocks, ptr and cols: whether they are these, how long the lists are, and where the next line starts.
-#[derive(Clone, Copy)]
-pub struct ListsRead {
-    pub good: bool,
-    pub blocks: usize,
-    pub pointers: usize,
-    pub columns: usize,
-    pub next: usize,
 }

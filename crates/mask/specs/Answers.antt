@@ -4,7 +4,7 @@ use Rattle.std.specs.Prelude.{Result}
 use Rattle.base.specs.Checks.{Check, answer}
 use Rattle.base.specs.declared.Refusal.{Refusal}
 use Rattle.base.specs.declared.Refusal.TheVariants.{OverLimit, OutOfRange, ListTooShort}
-use Rattle.base.specs.Checks.{must, ◌then◌, after, leaves, side_limit}
+use Rattle.base.specs.Checks.{must, ◌then◌, leaves, side_limit}
 use Rattle.base.specs.Lists.{every, below, is_in, over}
 use Rattle.base.specs.Sets.{between, any_below, count_below, members_below}
 use Rattle.word.specs.Bits.{bit_at}

@@ -1,8 +1,9 @@
 // The work of a mask's functions, for callers that have checked: no part of the API. Where the code has no use for `len`, the contract has:
-// it says which mask the words are.
+// it says which mask the words are. Words that are
+// written are handed in as a list: what they are is said of them before and after, which no struct can.
 #![tactic(auto, using(crate::proofs::Stores::stores))]
 
-ghost use Rattle.std.specs.Prelude.{◌≡◌, true, false, ◌&&◌, ◌+◌, ◌-◌, ◌<◌, ◌≤◌, ◌*◌, length, ltb};
+ghost use Rattle.std.specs.Prelude.{◌≡◌, IfOk, true, false, ◌&&◌, ◌+◌, ◌-◌, ◌<◌, ◌≤◌, ◌*◌, length, ltb};
 ghost use Rattle.base.specs.Checks.{side_limit};
 ghost use Rattle.base.specs.Lists.{every, below, is_in, over};
 ghost use Rattle.base.specs.Sets.{any_below, first_below, count_below, members_below};
@@ -13,6 +14,101 @@ ghost use Rattle.mask.specs.Answers.{with_node, with_word, with_range, combined}
 
 use base::Refusal;
 use word::{AbtmTopologyWord, Operation};
+
+// A mask that was accepted.
+#[derive(Clone, Copy)]
+pub struct Mask<'a> {
+    pub len: usize,
+    pub words: &'a [u64],
+    ghost accepted: { IsMask len words.now },
+}
+
+impl Mask<'_> {
+    ghost use Rattle.mask.specs.Views.{nodes};
+
+    pub fn copy(self, out: &mut [u64])
+        requires { length out.old ≡ words_needed self.len }
+        ensures { out.new ≡ self.entry.words.now }
+    {
+        out.copy_from_slice(self.words);
+    }
+
+    pub fn holds(self, index: usize) -> bool
+        requires { index < self.len }
+        ensures { result ≡ nodes self.entry index }
+    {
+        self.words[index / AbtmTopologyWord::BITS] & (1u64 << (index % AbtmTopologyWord::BITS)) != 0
+    }
+
+    pub fn any_node(self) -> bool
+        ensures { result ≡ any_below self.entry.len (nodes self.entry) }
+    {
+        self.words.iter().any(|word| *word != 0)
+    }
+
+    pub fn any_common(self, other: Mask) -> bool
+        requires { other.len ≡ self.len }
+        ensures { result ≡ any_below self.entry.len (λ i. nodes self.entry i && nodes other.entry i) }
+    {
+        for (w, word) in self.words.iter().enumerate() {
+            if *word & other.words[w] != 0 {
+                return true;
+            }
+        }
+        false
+    }
+
+    #[tactic(auto, using(crate::proofs::Passes::counting))]
+    pub fn count(self) -> u64
+        ensures { result ≡ count_below self.entry.len (nodes self.entry) }
+    {
+        let mut total: u64 = 0;
+        for word in self.words {
+            total += u64::count_ones(*word) as u64;
+        }
+        total
+    }
+
+    // The first member at or after `from`, or the length. Words without a member are passed over whole.
+    #[tactic(auto, using(crate::proofs::Nexts::walking))]
+    pub fn next_member(self, from: usize) -> usize
+        requires { from ≤ self.len }
+        ensures { result ≡ from + first_below (self.entry.len - from) (λ j. nodes self.entry (from + j)) }
+    {
+        if from == self.len {
+            return self.len;
+        }
+        let first = from / AbtmTopologyWord::BITS;
+        let ahead = self.words[first] >> (from % AbtmTopologyWord::BITS);
+        if ahead != 0 {
+            return from + u64::trailing_zeros(ahead) as usize;
+        }
+        for w in first + 1..self.words.len() {
+            let bits = self.words[w];
+            if bits != 0 {
+                return w * AbtmTopologyWord::BITS + u64::trailing_zeros(bits) as usize;
+            }
+        }
+        self.len
+    }
+
+    // The members in rising order at the front of `out`, which has room for them.
+    pub fn write_members(self, out: &mut [u64])
+        requires { count_below self.len (nodes self) ≤ length out.old }
+        ensures { out.new ≡ over (members_below self.entry.len (nodes self.entry)) out.old }
+    {
+        let mut n: usize = 0;
+        for (w, word) in self.words.iter().enumerate() {
+            let first = (w * AbtmTopologyWord::BITS) as u64;
+            let mut bits = *word;
+            while bits != 0 {
+                out[n] = first + (u64::trailing_zeros(bits) as u64);
+                n += 1;
+                bits &= bits - 1;
+            }
+        }
+    }
+}
 
 pub fn words_for(len: usize) -> usize
     requires { len ≤ side_limit }
@@ -25,7 +121,8 @@ pub fn words_for(len: usize) -> usize
 #[tactic(auto, using(crate::proofs::Shape::shapes), unfolding(crate::specs::Mask::shape_check))]
 pub fn check_shape(len: usize, words: &[u64]) -> Result<(), Refusal>
     requires { len ≤ side_limit }
-    ensures { result ≡ shape_check len words.now }
+    ensures value { result ≡ shape_check len words.now }
+    ensures accepted { IfOk result (λ t. IsMask len words.now) }
 {
     let need = words_for(len);
     if words.len() != need {
@@ -45,7 +142,8 @@ pub fn check_shape(len: usize, words: &[u64]) -> Result<(), Refusal>
 #[tactic(auto, using(base::proofs::Checks::checks), unfolding(crate::specs::Mask::length_check))]
 pub fn check_length(expected: usize, len: usize, words: &[u64]) -> Result<(), Refusal>
     requires { expected ≤ side_limit }
-    ensures { result ≡ length_check expected len words.now }
+    ensures value { result ≡ length_check expected len words.now }
+    ensures accepted { IfOk result (λ t. (len ≡ expected) × IsMask expected words.now) }
 {
     if len != expected {
         return Err(Refusal::wrong_length(expected, len));
@@ -58,20 +156,6 @@ pub fn clear(len: usize, words: &mut [u64])
     ensures { words.new ≡ mask_words len (λ i. false) }
 {
     words.fill(0);
-}
-
-pub fn copy(len: usize, words: &[u64], out: &mut [u64])
-    requires { IsMask len words.now × (length out.old ≡ words_needed len) }
-    ensures { out.new ≡ words.now }
-{
-    out.copy_from_slice(words);
-}
-
-pub fn holds(len: usize, words: &[u64], index: usize) -> bool
-    requires { IsMask len words.now × (index < len) }
-    ensures { result ≡ in_mask words.now index }
-{
-    words[index / AbtmTopologyWord::BITS] & (1u64 << (index % AbtmTopologyWord::BITS)) != 0
 }
 
 pub fn put(len: usize, words: &mut [u64], index: usize, value: bool)
@@ -99,37 +183,6 @@ pub fn fill(len: usize, indices: &[u64], words: &mut [u64])
     }
 }
 
-pub fn any_node(len: usize, words: &[u64]) -> bool
-    requires { IsMask len words.now }
-    ensures { result ≡ any_below len (in_mask words.now) }
-{
-    words.iter().any(|word| *word != 0)
-}
-
-pub fn any_common(len: usize, words: &[u64], other: &[u64]) -> bool
-    requires { IsMask len words.now × IsMask len other.now }
-    ensures { result ≡ any_below len (λ i. in_mask words.now i && in_mask other.now i) }
-{
-    for (w, word) in words.iter().enumerate() {
-        if *word & other[w] != 0 {
-            return true;
-        }
-    }
-    false
-}
-
-#[tactic(auto, using(crate::proofs::Passes::counting))]
-pub fn count(len: usize, words: &[u64]) -> u64
-    requires { IsMask len words.now }
-    ensures { result ≡ count_below len (in_mask words.now) }
-{
-    let mut total: u64 = 0;
-    for word in words {
-        total += u64::count_ones(*word) as u64;
-    }
-    total
-}
-
 #[tactic(auto, using(crate::proofs::Passes::combining))]
 pub fn combine(len: usize, words: &mut [u64], other: &[u64], op: Operation)
     requires { IsMask len words.old × IsMask len other.now }
@@ -137,46 +190,6 @@ pub fn combine(len: usize, words: &mut [u64], other: &[u64], op: Operation)
 {
     for (w, word) in words.iter_mut().enumerate() {
         *word = op.apply(*word, other[w]);
-    }
-}
-
-// The first member at or after `from`, or the length. Words without a member are passed over whole.
-#[tactic(auto, using(crate::proofs::Nexts::walking))]
-pub fn next_member(len: usize, words: &[u64], from: usize) -> usize
-    requires { IsMask len words.now × (from ≤ len) }
-    ensures { result ≡ from + first_below (len - from) (λ j. in_mask words.now (from + j)) }
-{
-    if from == len {
-        return len;
-    }
-    let first = from / AbtmTopologyWord::BITS;
-    let ahead = words[first] >> (from % AbtmTopologyWord::BITS);
-    if ahead != 0 {
-        return from + u64::trailing_zeros(ahead) as usize;
-    }
-    for w in first + 1..words.len() {
-        let bits = words[w];
-        if bits != 0 {
-            return w * AbtmTopologyWord::BITS + u64::trailing_zeros(bits) as usize;
-        }
-    }
-    len
-}
-
-// The members in rising order at the front of `out`, which has room for them.
-pub fn write_members(len: usize, words: &[u64], out: &mut [u64])
-    requires { IsMask len words.now × (count_below len (in_mask words.now) ≤ length out.old) }
-    ensures { out.new ≡ over (members_below len (in_mask words.now)) out.old }
-{
-    let mut n: usize = 0;
-    for (w, word) in words.iter().enumerate() {
-        let first = (w * AbtmTopologyWord::BITS) as u64;
-        let mut bits = *word;
-        while bits != 0 {
-            out[n] = first + (u64::trailing_zeros(bits) as u64);
-            n += 1;
-            bits &= bits - 1;
-        }
     }
 }
 

@@ -6,7 +6,7 @@ use Rattle.base.specs.Checks.{Check, answer}
 use Rattle.base.specs.declared.Refusal.{Refusal}
 use Rattle.base.specs.declared.Refusal.TheVariants.{OverLimit, BitPastLength, OutOfRange, ListTooShort}
 use Rattle.std.proofs.Math.Seq.{slice}
-use Rattle.base.specs.Checks.{must, must_be, ◌then◌, after, leaves, side_limit, region_limit}
+use Rattle.base.specs.Checks.{must, must_be, ◌then◌, leaves, side_limit, region_limit}
 use Rattle.base.specs.Lists.{list_from, over}
 use Rattle.base.specs.Sets.{every_below, sum_below, largest_below, count_below}
 use Rattle.mask.specs.Mask.{in_mask, words_needed, clean, IsMask}

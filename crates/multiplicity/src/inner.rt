@@ -3,11 +3,13 @@ ghost use Rattle.std.specs.Prelude.{◌≡◌, ℕ, ◌+◌, ◌*◌, ◌^◌, �
 ghost use Rattle.base.specs.Checks.{side_limit, region_limit};
 ghost use Rattle.base.specs.Lists.{list_from};
 ghost use Rattle.base.specs.Sets.{every_below, one_if};
-ghost use Rattle.mask.specs.Mask.{in_mask, words_needed, clean, IsMask};
-ghost use Rattle.topology.specs.Statistics.{ratio};
+ghost use Rattle.mask.specs.Mask.{words_needed, clean};
+ghost use Rattle.mask.specs.Views.{nodes};
 ghost use Rattle.multiplicity.specs.Multiplicity.{region_at, holds_in_region, multiplicity_of, multiplicity_stats, Regions};
 
 use crate::AbtmRegionMultiplicityStats;
+use mask::inner::Mask;
+use topology::inner::ratio;
 use word::AbtmTopologyWord;
 
 // Whether no region has a bit at or past the nodes: its last word alone can.
@@ -29,11 +31,11 @@ pub fn all_clean(node_count: usize, region_count: usize, words: &[u64]) -> bool
 }
 
 // One more for each member of the mask, a word's set bits from the lowest on.
-fn add_region(node_count: usize, region: &[u64], counts: &mut [u32])
-    requires { IsMask node_count region.now × (length counts.old ≡ node_count) × ((i : ℕ) → get_or counts.old i 0 < region_limit) }
-    ensures { counts.new ≡ list_from (λ i. get_or counts.old i 0 + one_if (in_mask region.now i)) node_count 0 }
+fn add_region(region: Mask, counts: &mut [u32])
+    requires { (length counts.old ≡ region.len) × ((i : ℕ) → get_or counts.old i 0 < region_limit) }
+    ensures { counts.new ≡ list_from (λ i. get_or counts.old i 0 + one_if (nodes region.entry i)) region.entry.len 0 }
 {
-    for (w, word) in region.iter().enumerate() {
+    for (w, word) in region.words.iter().enumerate() {
         let first = w * AbtmTopologyWord::BITS;
         let mut bits = *word;
         while bits != 0 {
@@ -52,7 +54,13 @@ pub fn count_regions(node_count: usize, region_count: usize, words: &[u64], coun
     counts.fill(0);
     let each = mask::inner::words_for(node_count);
     for q in 0..region_count {
-        add_region(node_count, &words[q * each..(q + 1) * each], counts);
+        add_region(
+            Mask {
+                len: node_count,
+                words: &words[q * each..(q + 1) * each],
+            },
+            counts,
+        );
     }
 }
 
@@ -122,12 +130,4 @@ pub fn multiplicity(node_count: usize, region_count: usize, words: &[u64], node:
         }
     }
     m
-}
-
-// a over b, 0.0 where b is 0.
-fn ratio(a: u64, b: u64) -> f64
-    requires { (a ≤ 2 ^ 53) × (b ≤ 2 ^ 53) }
-    ensures { result ≡ ratio a b }
-{
-    if b == 0 { 0.0 } else { a as f64 / b as f64 }
 }

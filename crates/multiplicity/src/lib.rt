@@ -25,6 +25,7 @@ pub struct AbtmRegionMultiplicityStats {
 }
 
 // The limits, the length of the flat list, the bits past the nodes.
+#[tactic(auto, using(base::proofs::Checks::checks), unfolding(crate::specs::Multiplicity::regions_check))]
 fn check_regions(node_count: usize, region_count: usize, words: &[u64]) -> Result<(), Refusal>
     ensures { result ≡ regions_check node_count region_count words.now }
 {
@@ -44,6 +45,7 @@ fn check_regions(node_count: usize, region_count: usize, words: &[u64]) -> Resul
     Ok(())
 }
 
+#[tactic(auto, using(base::proofs::Checks::checks), unfolding(crate::specs::Multiplicity::multiplicity_check))]
 fn check_counts(
     node_count: usize,
     region_count: usize,
@@ -74,6 +76,7 @@ pub fn region_multiplicity(
     Ok(inner::tally(region_count, &counts[..node_count]))
 }
 
+#[tactic(auto, using(base::proofs::Checks::checks), unfolding(crate::specs::Multiplicity::weight_check))]
 fn check_weight(
     node_count: usize,
     region_count: usize,

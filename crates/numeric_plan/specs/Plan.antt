@@ -5,7 +5,7 @@ use Rattle.std.specs.Prelude.{Result}
 use Rattle.base.specs.Checks.{Check, answer}
 use Rattle.base.specs.declared.Refusal.{Refusal}
 use Rattle.base.specs.declared.Refusal.TheVariants.{SidesDiffer, ListTooShort}
-use Rattle.base.specs.Checks.{must, ◌then◌, after, leaves}
+use Rattle.base.specs.Checks.{must, ◌then◌, leaves}
 use Rattle.base.specs.Lists.{join_below, over}
 use Rattle.base.specs.Sets.{count_below}
 use Rattle.mask.specs.Mask.{in_mask}

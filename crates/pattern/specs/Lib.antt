@@ -1,2 +1,3 @@
 pub mod Pattern
 pub mod Steps
+pub mod Views

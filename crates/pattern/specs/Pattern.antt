@@ -7,7 +7,7 @@ use Rattle.base.specs.declared.Refusal.{Refusal}
 use Rattle.base.specs.declared.Refusal.TheVariants.{NotSquare, ListTooShort}
 use Rattle.std.specs.Float.{fin, binary64}
 use Rattle.std.specs.Float.Ieee.{sub, of_bits}
-use Rattle.base.specs.Checks.{must, ◌then◌, after, leaves}
+use Rattle.base.specs.Checks.{must, ◌then◌, leaves}
 use Rattle.base.specs.Lists.{list_from, join_below, over}
 use Rattle.base.specs.Sets.{count_below, sum_over, members_below}
 use Rattle.mask.specs.Mask.{in_mask, length_check}

@@ -1,124 +1,182 @@
 // The steps of a pattern, for callers that have checked: no part of the API.
-ghost use Rattle.std.specs.Prelude.{◌≡◌, map, ℕ, ◌+◌, ◌*◌, ◌<◌, ◌≤◌, length, get_or};
+ghost use Rattle.std.specs.Prelude.{◌≡◌, IfOk, map, ℕ, ◌+◌, ◌*◌, ◌<◌, ◌≤◌, length, get_or};
 ghost use Rattle.base.specs.Checks.{side_limit};
 ghost use Rattle.base.specs.Lists.{over, placed};
 ghost use Rattle.base.specs.Sets.{count_below, members_below};
 ghost use Rattle.word.specs.Bits.{bit_at, set_bits};
 ghost use Rattle.mask.specs.Mask.{in_mask, words_needed, IsMask};
-ghost use Rattle.side.specs.Side.{side_holds};
+ghost use Rattle.mask.specs.Views.{nodes};
 ghost use Rattle.side.specs.Check.{IsSide};
-ghost use Rattle.dual_topology.specs.Check.{topology_check};
+ghost use Rattle.side.specs.Views.{pairs};
+ghost use Rattle.dual_topology.specs.Views.{check_topology};
 ghost use Rattle.pattern.specs.Pattern.{number_of, inside, columns_of, pattern_ptr, pattern_columns, pairs_inside, region_check};
 ghost use Rattle.pattern.specs.Steps.{kept_of_row, region_kept, room_for, ranks_of, Small, stats_of};
 
 use crate::{AbtmLocalSubmatrixPatternStats, RegionKept, RowKept};
 use base::Refusal;
+use dual_topology::AbtmDualTopology;
+use mask::DofMask;
+use mask::inner::Mask;
+use side::inner::Side;
 use word::AbtmTopologyWord;
 
 // A table of 256 words' ranks is enough up to this side.
 pub const SMALL_SIDE: usize = 16384;
 
+// The rows of a square topology and a region of its nodes.
+#[derive(Clone, Copy)]
+pub struct Local<'a> {
+    pub rows: Side<'a>,
+    pub region: Mask<'a>,
+    ghost square: { IsSide region.len region.len rows.row_word_ptr.now rows.word_indices.now rows.masks.now },
+}
+
+// The same with how many members come before each word of the region.
+#[derive(Clone, Copy)]
+pub struct Ranked<'a, 'r> {
+    pub local: Local<'a>,
+    pub ranks: &'r [u32],
+    ghost counted: { (w : ℕ) → w < words_needed local.region.len → get_or ranks.now w 0 ≡ count_below (64 * w) (in_mask local.region.words.now) },
+    ghost long: { words_needed local.region.len ≤ length ranks.now },
+}
+
 // The topology, its shape, the mask.
-pub fn check_region(
-    nrows: usize,
-    ncols: usize,
-    row_word_ptr: &[u32],
-    row_word_indices: &[u32],
-    row_masks: &[u64],
-    structural_nnz: usize,
-    column_nrows: usize,
-    column_ncols: usize,
-    column_word_ptr: &[u32],
-    column_word_indices: &[u32],
-    column_masks: &[u64],
-    column_structural_nnz: usize,
-    len: usize,
-    words: &[u64],
-) -> Result<(), Refusal>
-    ensures { result ≡ region_check (topology_check nrows ncols row_word_ptr.now row_word_indices.now row_masks.now structural_nnz column_nrows column_ncols column_word_ptr.now column_word_indices.now column_masks.now column_structural_nnz) nrows ncols len words.now }
+#[tactic(auto, using(base::proofs::Checks::checks), unfolding(crate::specs::Pattern::region_check))]
+pub fn check_region(topology: AbtmDualTopology, region: DofMask) -> Result<(), Refusal>
+    ensures value { result ≡ region_check (check_topology topology.entry) topology.entry.rows.nrows topology.entry.rows.ncols region.entry.len region.entry.words.now }
+    ensures accepted { IfOk result (λ t. IsSide topology.entry.rows.nrows topology.entry.rows.nrows topology.entry.rows.row_word_ptr.now topology.entry.rows.word_indices.now topology.entry.rows.masks.now × IsMask topology.entry.rows.nrows region.entry.words.now) }
 {
-    dual_topology::validate(
-        nrows,
-        ncols,
-        row_word_ptr,
-        row_word_indices,
-        row_masks,
-        structural_nnz,
-        column_nrows,
-        column_ncols,
-        column_word_ptr,
-        column_word_indices,
-        column_masks,
-        column_structural_nnz,
-    )?;
-    if nrows != ncols {
+    topology.validate()?;
+    if topology.rows.nrows != topology.rows.ncols {
         return Err(Refusal::NotSquare);
     }
-    mask::inner::check_length(nrows, len, words)
+    mask::inner::check_length(topology.rows.nrows, region.len, region.words)
 }
 
-// The words of row r: how many, their bits, and those inside the region.
-pub fn count_row(
-    n: usize,
-    row_word_ptr: &[u32],
-    word_indices: &[u32],
-    masks: &[u64],
-    region: &[u64],
-    r: usize,
-) -> RowKept
-    requires { IsSide n n row_word_ptr.now word_indices.now masks.now × IsMask n region.now × (r < n) }
-    ensures { result ≡ kept_of_row n (in_mask region.now) (side_holds row_word_ptr.now word_indices.now masks.now) r }
-{
-    let from = row_word_ptr[r] as usize;
-    let to = row_word_ptr[r + 1] as usize;
-    let mut candidates: usize = 0;
-    let mut kept: usize = 0;
-    for k in from..to {
-        let mask = masks[k];
-        let inside = region[word_indices[k] as usize];
-        candidates += u64::count_ones(mask) as usize;
-        kept += u64::count_ones(mask & inside) as usize;
+impl Local<'_> {
+    // The words of row r: how many, their bits, and those inside the region.
+    pub fn count_row(self, r: usize) -> RowKept
+        requires { r < self.region.len }
+        ensures { result ≡ kept_of_row self.entry.region.len (nodes self.entry.region) (pairs self.entry.rows) r }
+    {
+        let from = self.rows.row_word_ptr[r] as usize;
+        let to = self.rows.row_word_ptr[r + 1] as usize;
+        let mut candidates: usize = 0;
+        let mut kept: usize = 0;
+        for k in from..to {
+            let mask = self.rows.masks[k];
+            let inside = self.region.words[self.rows.word_indices[k] as usize];
+            candidates += u64::count_ones(mask) as usize;
+            kept += u64::count_ones(mask & inside) as usize;
+        }
+        RowKept {
+            words: to - from,
+            candidates,
+            kept,
+        }
     }
-    RowKept {
-        words: to - from,
-        candidates,
-        kept,
+
+    // The members and what their rows hold.
+    pub fn count(self) -> RegionKept
+        ensures { result ≡ region_kept self.entry.region.len (nodes self.entry.region) (pairs self.entry.rows) }
+    {
+        let mut members: usize = 0;
+        let mut words: usize = 0;
+        let mut candidates: usize = 0;
+        let mut kept: usize = 0;
+        let mut r = self.region.next_member(0);
+        while r < self.region.len {
+            let row = self.count_row(r);
+            members += 1;
+            words += row.words;
+            candidates += row.candidates;
+            kept += row.kept;
+            r = self.region.next_member(r + 1);
+        }
+        RegionKept {
+            members,
+            words,
+            candidates,
+            kept,
+        }
+    }
+
+    // The pattern on lists that reach their needed lengths, with room for the table of ranks.
+    fn write_ranked(
+        self,
+        global_nodes: &mut [u32],
+        row_ptr: &mut [u32],
+        col_idx: &mut [u32],
+        ranks: &mut [u32],
+    )
+        requires { (count_below self.region.len (nodes self.region) ≤ length global_nodes.old) × (count_below self.region.len (nodes self.region) < length row_ptr.old) × (pairs_inside self.region.len (nodes self.region) (pairs self.rows) ≤ length col_idx.old) × (words_needed self.region.len ≤ length ranks.old) }
+        ensures members { global_nodes.new ≡ over (members_below self.entry.region.len (nodes self.entry.region)) global_nodes.old }
+        ensures pointers { row_ptr.new ≡ over (pattern_ptr self.entry.region.len (nodes self.entry.region) (pairs self.entry.rows)) row_ptr.old }
+        ensures columns { col_idx.new ≡ over (pattern_columns self.entry.region.len (nodes self.entry.region) (pairs self.entry.rows)) col_idx.old }
+    {
+        fill_ranks(self.region, ranks);
+        let ranked = Ranked { local: self, ranks };
+        row_ptr[0] = 0;
+        let mut next: usize = 0;
+        let mut k: usize = 0;
+        let mut r = self.region.next_member(0);
+        while r < self.region.len {
+            global_nodes[k] = r as u32;
+            next = ranked.write_row(r, col_idx, next);
+            k += 1;
+            row_ptr[k] = next as u32;
+            r = self.region.next_member(r + 1);
+        }
+    }
+
+    // The same with a table of its own, an array since there is no heap: a small one for a small side, where to clear the large one would cost more
+    // than the rest. The lists that are written are handed in one by one, each with its equation.
+    pub fn write(self, global_nodes: &mut [u32], row_ptr: &mut [u32], col_idx: &mut [u32])
+        requires { (count_below self.region.len (nodes self.region) ≤ length global_nodes.old) × (count_below self.region.len (nodes self.region) < length row_ptr.old) × (pairs_inside self.region.len (nodes self.region) (pairs self.rows) ≤ length col_idx.old) }
+        ensures members { global_nodes.new ≡ over (members_below self.entry.region.len (nodes self.entry.region)) global_nodes.old }
+        ensures pointers { row_ptr.new ≡ over (pattern_ptr self.entry.region.len (nodes self.entry.region) (pairs self.entry.rows)) row_ptr.old }
+        ensures columns { col_idx.new ≡ over (pattern_columns self.entry.region.len (nodes self.entry.region) (pairs self.entry.rows)) col_idx.old }
+    {
+        if self.region.len <= SMALL_SIDE {
+            let mut small: [u32; 256] = [0; 256];
+            self.write_ranked(global_nodes, row_ptr, col_idx, &mut small);
+            return;
+        }
+        let mut large: [u32; 16384] = [0; 16384];
+        self.write_ranked(global_nodes, row_ptr, col_idx, &mut large);
     }
 }
 
-// The members and what their rows hold.
-pub fn count(
-    n: usize,
-    row_word_ptr: &[u32],
-    word_indices: &[u32],
-    masks: &[u64],
-    region: &[u64],
-) -> RegionKept
-    requires { IsSide n n row_word_ptr.now word_indices.now masks.now × IsMask n region.now }
-    ensures { result ≡ region_kept n (in_mask region.now) (side_holds row_word_ptr.now word_indices.now masks.now) }
-{
-    let mut members: usize = 0;
-    let mut words: usize = 0;
-    let mut candidates: usize = 0;
-    let mut kept: usize = 0;
-    let mut r = mask::inner::next_member(n, region, 0);
-    while r < n {
-        let row = count_row(n, row_word_ptr, word_indices, masks, region, r);
-        members += 1;
-        words += row.words;
-        candidates += row.candidates;
-        kept += row.kept;
-        r = mask::inner::next_member(n, region, r + 1);
+impl Ranked<'_, '_> {
+    // How many members come before node c: those before its word, and those before it in the word.
+    pub fn number(self, c: u32) -> u32
+        requires { c < self.local.region.len }
+        ensures { result ≡ number_of (in_mask self.entry.local.region.words.now) c }
+    {
+        let w = c as usize / AbtmTopologyWord::BITS;
+        let b = c as usize % AbtmTopologyWord::BITS;
+        self.ranks[w] + u64::count_ones(((1u64 << b) - 1) & self.local.region.words[w])
     }
-    RegionKept {
-        members,
-        words,
-        candidates,
-        kept,
+
+    // The columns of row r that are inside, each by its number: written from `at` on, since all rows share the list. Where they end.
+    pub fn write_row(self, r: usize, cols: &mut [u32], at: usize) -> usize
+        requires { (r < self.local.region.len) × (at + count_below self.local.region.len (inside (nodes self.local.region) (pairs self.local.rows) r) ≤ length cols.old) }
+        ensures value { result ≡ at + count_below self.entry.local.region.len (inside (nodes self.entry.local.region) (pairs self.entry.local.rows) r) }
+        ensures cols_after { cols.new ≡ placed at (map (number_of (nodes self.entry.local.region)) (columns_of self.entry.local.region.len (nodes self.entry.local.region) (pairs self.entry.local.rows) r)) cols.old }
+    {
+        let rows = self.local.rows;
+        let mut next = at;
+        for k in rows.row_word_ptr[r] as usize..rows.row_word_ptr[r + 1] as usize {
+            let w = rows.word_indices[k] as usize;
+            let inside = self.local.region.words[w];
+            next = write_word(self.ranks[w], inside, rows.masks[k] & inside, cols, next);
+        }
+        next
     }
 }
 
 // The lengths of the lists.
+#[tactic(auto, using(base::proofs::Checks::checks), unfolding(crate::specs::Steps::room_for))]
 pub fn check_room(
     members: usize,
     kept: usize,
@@ -156,14 +214,15 @@ pub fn stats(n: usize, counts: RegionKept) -> AbtmLocalSubmatrixPatternStats
     }
 }
 
-// The members in rising order. How many there are.
-pub fn write_nodes(n: usize, region: &[u64], nodes: &mut [u32]) -> usize
-    requires { IsMask n region.now × (count_below n (in_mask region.now) ≤ length nodes.old) }
-    ensures value { result ≡ count_below n (in_mask region.now) }
-    ensures nodes_after { nodes.new ≡ over (members_below n (in_mask region.now)) nodes.old }
+// The members in rising order. How many there are. No twin of `mask::inner::Mask::write_members`: over both widths each contract would speak of the
+// values of a list in the place of the list, and each caller would have to go from one to the other.
+pub fn write_nodes(region: Mask, nodes: &mut [u32]) -> usize
+    requires { count_below region.len (in_mask region.words.now) ≤ length nodes.old }
+    ensures value { result ≡ count_below region.entry.len (in_mask region.entry.words.now) }
+    ensures nodes_after { nodes.new ≡ over (members_below region.entry.len (in_mask region.entry.words.now)) nodes.old }
 {
     let mut k: usize = 0;
-    for (w, word) in region.iter().enumerate() {
+    for (w, word) in region.words.iter().enumerate() {
         let first = (w * AbtmTopologyWord::BITS) as u32;
         let mut bits = *word;
         while bits != 0 {
@@ -176,12 +235,12 @@ pub fn write_nodes(n: usize, region: &[u64], nodes: &mut [u32]) -> usize
 }
 
 // How many members come before each word of the region. A word without one, as most are in a small region, is not counted.
-pub fn fill_ranks(n: usize, region: &[u64], ranks: &mut [u32])
-    requires { IsMask n region.now × (words_needed n ≤ length ranks.old) }
-    ensures { ranks.new ≡ over (ranks_of n (in_mask region.now)) ranks.old }
+pub fn fill_ranks(region: Mask, ranks: &mut [u32])
+    requires { words_needed region.len ≤ length ranks.old }
+    ensures { ranks.new ≡ over (ranks_of region.entry.len (in_mask region.entry.words.now)) ranks.old }
 {
     let mut before: u32 = 0;
-    for (w, bits) in region.iter().enumerate() {
+    for (w, bits) in region.words.iter().enumerate() {
         ranks[w] = before;
         if *bits != 0 {
             before += u64::count_ones(*bits);
@@ -189,7 +248,7 @@ pub fn fill_ranks(n: usize, region: &[u64], ranks: &mut [u32])
     }
 }
 
-// The set bits of `bits`, each by its rank in `inside`, counted from `first`: written from `at` on. Where they end.
+// The set bits of `bits`, each by its rank in `inside`, counted from `first`: written from `at` on, as a row is. Where they end.
 fn write_word(first: u32, inside: u64, bits: u64, cols: &mut [u32], at: usize) -> usize
     requires { (at + count_below 64 (bit_at bits) ≤ length cols.old) × (first ≤ side_limit) }
     ensures value { result ≡ at + count_below 64 (bit_at bits) }
@@ -204,115 +263,4 @@ fn write_word(first: u32, inside: u64, bits: u64, cols: &mut [u32], at: usize) -
         left = left & (left - 1);
     }
     next
-}
-
-// The columns of row r that are inside, each by its number: written from `at` on. Where they end.
-pub fn write_row(
-    n: usize,
-    row_word_ptr: &[u32],
-    word_indices: &[u32],
-    masks: &[u64],
-    region: &[u64],
-    ranks: &[u32],
-    r: usize,
-    cols: &mut [u32],
-    at: usize,
-) -> usize
-    requires { IsSide n n row_word_ptr.now word_indices.now masks.now × IsMask n region.now × (r < n) × ((w : ℕ) → w < words_needed n → get_or ranks.now w 0 ≡ count_below (64 * w) (in_mask region.now)) × (words_needed n ≤ length ranks.now) × (at + count_below n (inside (in_mask region.now) (side_holds row_word_ptr.now word_indices.now masks.now) r) ≤ length cols.old) }
-    ensures value { result ≡ at + count_below n (inside (in_mask region.now) (side_holds row_word_ptr.now word_indices.now masks.now) r) }
-    ensures cols_after { cols.new ≡ placed at (map (number_of (in_mask region.now)) (columns_of n (in_mask region.now) (side_holds row_word_ptr.now word_indices.now masks.now) r)) cols.old }
-{
-    let mut next = at;
-    for k in row_word_ptr[r] as usize..row_word_ptr[r + 1] as usize {
-        let w = word_indices[k] as usize;
-        let inside = region[w];
-        next = write_word(ranks[w], inside, masks[k] & inside, cols, next);
-    }
-    next
-}
-
-// The pattern on lists that reach their needed lengths, with room for the table of ranks.
-fn write_ranked(
-    n: usize,
-    row_word_ptr: &[u32],
-    word_indices: &[u32],
-    masks: &[u64],
-    region: &[u64],
-    global_nodes: &mut [u32],
-    row_ptr: &mut [u32],
-    col_idx: &mut [u32],
-    ranks: &mut [u32],
-)
-    requires { IsSide n n row_word_ptr.now word_indices.now masks.now × IsMask n region.now × (count_below n (in_mask region.now) ≤ length global_nodes.old) × (count_below n (in_mask region.now) < length row_ptr.old) × (pairs_inside n (in_mask region.now) (side_holds row_word_ptr.now word_indices.now masks.now) ≤ length col_idx.old) × (words_needed n ≤ length ranks.old) }
-    ensures members { global_nodes.new ≡ over (members_below n (in_mask region.now)) global_nodes.old }
-    ensures pointers { row_ptr.new ≡ over (pattern_ptr n (in_mask region.now) (side_holds row_word_ptr.now word_indices.now masks.now)) row_ptr.old }
-    ensures columns { col_idx.new ≡ over (pattern_columns n (in_mask region.now) (side_holds row_word_ptr.now word_indices.now masks.now)) col_idx.old }
-{
-    fill_ranks(n, region, ranks);
-    row_ptr[0] = 0;
-    let mut next: usize = 0;
-    let mut k: usize = 0;
-    let mut r = mask::inner::next_member(n, region, 0);
-    while r < n {
-        global_nodes[k] = r as u32;
-        next = write_row(
-            n,
-            row_word_ptr,
-            word_indices,
-            masks,
-            region,
-            ranks,
-            r,
-            col_idx,
-            next,
-        );
-        k += 1;
-        row_ptr[k] = next as u32;
-        r = mask::inner::next_member(n, region, r + 1);
-    }
-}
-
-// The same with a table of its own: a small one for a small side, where to clear the large one would cost more than the rest.
-pub fn write(
-    n: usize,
-    row_word_ptr: &[u32],
-    word_indices: &[u32],
-    masks: &[u64],
-    region: &[u64],
-    global_nodes: &mut [u32],
-    row_ptr: &mut [u32],
-    col_idx: &mut [u32],
-)
-    requires { IsSide n n row_word_ptr.now word_indices.now masks.now × IsMask n region.now × (count_below n (in_mask region.now) ≤ length global_nodes.old) × (count_below n (in_mask region.now) < length row_ptr.old) × (pairs_inside n (in_mask region.now) (side_holds row_word_ptr.now word_indices.now masks.now) ≤ length col_idx.old) }
-    ensures members { global_nodes.new ≡ over (members_below n (in_mask region.now)) global_nodes.old }
-    ensures pointers { row_ptr.new ≡ over (pattern_ptr n (in_mask region.now) (side_holds row_word_ptr.now word_indices.now masks.now)) row_ptr.old }
-    ensures columns { col_idx.new ≡ over (pattern_columns n (in_mask region.now) (side_holds row_word_ptr.now word_indices.now masks.now)) col_idx.old }
-{
-    if n <= SMALL_SIDE {
-        let mut small: [u32; 256] = [0; 256];
-        write_ranked(
-            n,
-            row_word_ptr,
-            word_indices,
-            masks,
-            region,
-            global_nodes,
-            row_ptr,
-            col_idx,
-            &mut small,
-        );
-        return;
-    }
-    let mut large: [u32; 16384] = [0; 16384];
-    write_ranked(
-        n,
-        row_word_ptr,
-        word_indices,
-        masks,
-        region,
-        global_nodes,
-        row_ptr,
-        col_idx,
-        &mut large,
-    );
 }

@@ -3,11 +3,16 @@
 
 ghost use Rattle.std.specs.Prelude.{◌≡◌};
 ghost use Rattle.mask.specs.Mask.{in_mask};
-ghost use Rattle.side.specs.Side.{side_holds};
-ghost use Rattle.dual_topology.specs.Check.{topology_check};
-ghost use Rattle.pattern.specs.Pattern.{pattern_check, pattern_answer, nodes_left, ptr_left, columns_left, pruning_ratio, average_row_nnz};
+ghost use Rattle.side.specs.Views.{holds};
+ghost use Rattle.pattern.specs.Pattern.{pattern_answer, nodes_left, ptr_left, columns_left, pruning_ratio, average_row_nnz};
+ghost use Rattle.pattern.specs.Views.{check_pattern};
 
 use base::Refusal;
+use dual_topology::AbtmDualTopology;
+use inner::Local;
+use mask::DofMask;
+use mask::inner::Mask;
+use side::inner::Side;
 
 pub mod inner;
 
@@ -47,63 +52,49 @@ impl AbtmLocalSubmatrixPatternStats {
         if self.candidate_neighbor_bits == 0 {
             0.0
         } else {
-            1.0 - self.kept_neighbor_bits as f64 / self.candidate_neighbor_bits as f64
+            1.0 - topology::inner::ratio(
+                self.kept_neighbor_bits as u64,
+                self.candidate_neighbor_bits as u64,
+            )
         }
     }
 
     pub fn average_local_row_nnz(self) -> f64
         ensures { result ≡ average_row_nnz self }
     {
-        if self.local_nodes == 0 {
-            0.0
-        } else {
-            self.local_nnz as f64 / self.local_nodes as f64
-        }
+        topology::inner::ratio(self.local_nnz as u64, self.local_nodes as u64)
     }
 }
 
 // The members of the region in rising order, and the stored pairs inside it by row, then by rising column.
-pub fn extract_local_submatrix_pattern(
-    nrows: usize,
-    ncols: usize,
-    row_word_ptr: &[u32],
-    row_word_indices: &[u32],
-    row_masks: &[u64],
-    structural_nnz: usize,
-    column_nrows: usize,
-    column_ncols: usize,
-    column_word_ptr: &[u32],
-    column_word_indices: &[u32],
-    column_masks: &[u64],
-    column_structural_nnz: usize,
-    len: usize,
-    words: &[u64],
+pub fn extract_local_submatrix_pattern<'a>(
+    topology: AbtmDualTopology<'a>,
+    region: DofMask<'a>,
     global_nodes: &mut [u32],
     row_ptr: &mut [u32],
     col_idx: &mut [u32],
 ) -> Result<AbtmLocalSubmatrixPatternStats, Refusal>
-    ensures value { result ≡ pattern_answer (pattern_check (topology_check nrows ncols row_word_ptr.now row_word_indices.now row_masks.now structural_nnz column_nrows column_ncols column_word_ptr.now column_word_indices.now column_masks.now column_structural_nnz) nrows ncols len words.now (side_holds row_word_ptr.now row_word_indices.now row_masks.now) global_nodes.old row_ptr.old col_idx.old) nrows (in_mask words.now) (side_holds row_word_ptr.now row_word_indices.now row_masks.now) }
-    ensures members { global_nodes.new ≡ nodes_left (pattern_check (topology_check nrows ncols row_word_ptr.now row_word_indices.now row_masks.now structural_nnz column_nrows column_ncols column_word_ptr.now column_word_indices.now column_masks.now column_structural_nnz) nrows ncols len words.now (side_holds row_word_ptr.now row_word_indices.now row_masks.now) global_nodes.old row_ptr.old col_idx.old) nrows (in_mask words.now) global_nodes.old }
-    ensures pointers { row_ptr.new ≡ ptr_left (pattern_check (topology_check nrows ncols row_word_ptr.now row_word_indices.now row_masks.now structural_nnz column_nrows column_ncols column_word_ptr.now column_word_indices.now column_masks.now column_structural_nnz) nrows ncols len words.now (side_holds row_word_ptr.now row_word_indices.now row_masks.now) global_nodes.old row_ptr.old col_idx.old) nrows (in_mask words.now) (side_holds row_word_ptr.now row_word_indices.now row_masks.now) row_ptr.old }
-    ensures columns { col_idx.new ≡ columns_left (pattern_check (topology_check nrows ncols row_word_ptr.now row_word_indices.now row_masks.now structural_nnz column_nrows column_ncols column_word_ptr.now column_word_indices.now column_masks.now column_structural_nnz) nrows ncols len words.now (side_holds row_word_ptr.now row_word_indices.now row_masks.now) global_nodes.old row_ptr.old col_idx.old) nrows (in_mask words.now) (side_holds row_word_ptr.now row_word_indices.now row_masks.now) col_idx.old }
+    ensures value { result ≡ pattern_answer (check_pattern topology.entry region.entry global_nodes.old row_ptr.old col_idx.old) topology.entry.rows.nrows (in_mask region.entry.words.now) (holds topology.entry.rows) }
+    ensures members { global_nodes.new ≡ nodes_left (check_pattern topology.entry region.entry global_nodes.old row_ptr.old col_idx.old) topology.entry.rows.nrows (in_mask region.entry.words.now) global_nodes.old }
+    ensures pointers { row_ptr.new ≡ ptr_left (check_pattern topology.entry region.entry global_nodes.old row_ptr.old col_idx.old) topology.entry.rows.nrows (in_mask region.entry.words.now) (holds topology.entry.rows) row_ptr.old }
+    ensures columns { col_idx.new ≡ columns_left (check_pattern topology.entry region.entry global_nodes.old row_ptr.old col_idx.old) topology.entry.rows.nrows (in_mask region.entry.words.now) (holds topology.entry.rows) col_idx.old }
 {
-    inner::check_region(
-        nrows,
-        ncols,
-        row_word_ptr,
-        row_word_indices,
-        row_masks,
-        structural_nnz,
-        column_nrows,
-        column_ncols,
-        column_word_ptr,
-        column_word_indices,
-        column_masks,
-        column_structural_nnz,
-        len,
-        words,
-    )?;
-    let kept = inner::count(nrows, row_word_ptr, row_word_indices, row_masks, words);
+    inner::check_region(topology, region)?;
+    let n = topology.rows.nrows;
+    let local = Local {
+        rows: Side {
+            nrows: n,
+            ncols: n,
+            row_word_ptr: topology.rows.row_word_ptr,
+            word_indices: topology.rows.word_indices,
+            masks: topology.rows.masks,
+        },
+        region: Mask {
+            len: n,
+            words: region.words,
+        },
+    };
+    let kept = local.count();
     inner::check_room(
         kept.members,
         kept.kept,
@@ -111,15 +102,6 @@ pub fn extract_local_submatrix_pattern(
         row_ptr.len(),
         col_idx.len(),
     )?;
-    inner::write(
-        nrows,
-        row_word_ptr,
-        row_word_indices,
-        row_masks,
-        words,
-        global_nodes,
-        row_ptr,
-        col_idx,
-    );
-    Ok(inner::stats(nrows, kept))
+    local.write(global_nodes, row_ptr, col_idx);
+    Ok(inner::stats(n, kept))
 }

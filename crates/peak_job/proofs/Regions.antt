@@ -11,16 +11,17 @@ use native.Mathlib.Omega.{arith}
 use borrow.Author.Tests.{le-leb, lt-ltb}
 use lib.Dec.{leb, ltb}
 use lib.ListN.{length, take}
-use Rattle.base.specs.Checks.{must, ◌then◌, after, leaves}
+use Rattle.base.specs.Checks.{must, ◌then◌, leaves}
 use Rattle.base.specs.Lists.{over, over_with_zeros}
 use Rattle.base.specs.Sets.{count_below, members_below}
 use Rattle.base.specs.declared.Refusal.{Refusal}
-use Rattle.base.proofs.Checks.{last-pass, both-passed, both-pass, then-none}
+use Rattle.base.proofs.Checks.{last-pass, both-pass, then-none}
 use Rattle.base.proofs.Lists.{over-own, zeros-own}
 use Rattle.base.proofs.Sets.{count-members}
-use Rattle.csr32.specs.Matrix.{stored}
+use Rattle.csr32.specs.Matrix.{stored, IsMatrix}
 use Rattle.mask.specs.Mask.{words_needed, in_mask, mask_check, length_check, IsMask}
 use Rattle.mask.proofs.Masks.{mask-length, mask_is, words-accepted}
+use Rattle.dof_layout.specs.Layout.{total_of}
 use Rattle.side.specs.Check.{side_room}
 use Rattle.graph.specs.Network.{Network, frontier_words, hops_made, in_frontier}
 use Rattle.growth.specs.Lent.{masks_room}
@@ -29,7 +30,6 @@ use Rattle.pattern.proofs.Writing.{ptr-length}
 use Rattle.numeric_plan.proofs.Pairs.{pattern-pairs}
 use Rattle.cutting.specs.Cut.{network_of, region_of}
 use Rattle.prepared_field_region.specs.Prepared.{local_room, prepare_room, prepare_inputs, prepare_check}
-use Rattle.cutting.specs.Steps.{Inputs}
 use Rattle.cutting.proofs.Local.{few_pairs}
 use Rattle.prepared_field_region.specs.declared.PreparedFieldAwareLocalRegion.{PreparedFieldAwareLocalRegion}
 use Rattle.job_text.specs.Answer.{result_lines}
@@ -47,13 +47,6 @@ check-is matrix square room n words m r =
     ∙ then-none (matrix then (square then length_check n n words))
     ∙ ap (λ (x : Check). matrix then (square then x)) (words-accepted n n words refl m)
     ∙ ap (λ (x : Check). matrix then x) (then-none square)
-
--- what both accept, the prepared region's inputs do
-pub inputs-pass : (matrix square : Check) (n : ℕ) (words : List ℕ) → mask_check n words ≡ Ok tt → (matrix then square) ≡ Ok tt → prepare_inputs matrix square n n words ≡ Ok tt
-unfolding prepare_inputs
-inputs-pass matrix square n words m e =
-    let b = both-passed matrix square e in
-    both-pass matrix (square then length_check n n words) b.0 (both-pass square (length_check n n words) b.1 (words-accepted n n words refl m))
 
 pub le-25 : (a b : ℕ) → a ≤ b → must (leb a b) ListTooShort ≡ Ok tt
 le-25 a b h = sym (last-pass _ _ _ (le-leb a b h) refl)
@@ -102,7 +95,7 @@ left_is check new old l e a = e ∙ ap (λ (x : Check). leaves x new old) a
 
 -- ---- its lists, as the five lines
 
-module _ (n : ℕ) (ptr cols blocks offsets words : List ℕ) (h : ℕ) (i : Inputs n ptr cols blocks offsets words) where
+module _ (n : ℕ) (ptr cols blocks words : List ℕ) (h : ℕ) (matrix : IsMatrix n n ptr cols) (sized : n ≡ total_of blocks) where
   abbrev g : Network
   g = network_of ptr cols blocks
 
@@ -114,11 +107,11 @@ module _ (n : ℕ) (ptr cols blocks offsets words : List ℕ) (h : ℕ) (i : Inp
 
   pub frontier-mask : IsMask n (frontier_words g words h)
   unfolding frontier_words
-  frontier-mask = subst (λ (k : ℕ). IsMask k (frontier_words g words h)) (sym i.side) (mask_is g.nodes (in_frontier g (in_mask words) h) (omega (arith, i.side, i.matrix.few_rows)))
+  frontier-mask = subst (λ (k : ℕ). IsMask k (frontier_words g words h)) (sym sized) (mask_is g.nodes (in_frontier g (in_mask words) h) (omega (arith, sized, matrix.few_rows)))
 
   frontier_long : length (frontier_words g words h) ≡ words_needed n
   unfolding frontier_words
-  frontier_long = mask-length g.nodes (in_frontier g (in_mask words) h) ∙ ap words_needed (sym i.side)
+  frontier_long = mask-length g.nodes (in_frontier g (in_mask words) h) ∙ ap words_needed (sym sized)
 
   pub frontier-part : (f old : List ℕ) → f ≡ over (frontier_words g words h) old → take (words_needed n) f ≡ frontier_words g words h
   frontier-part f old e = ap (take (words_needed n)) e ∙ over-own (frontier_words g words h) old (words_needed n) frontier_long
@@ -127,7 +120,7 @@ module _ (n : ℕ) (ptr cols blocks offsets words : List ℕ) (h : ℕ) (i : Inp
   frontier_room f old e = subst (λ (l : List ℕ). IsMask n l) (sym (frontier-part f old e)) frontier-mask
 
   pub pairs_fit : pairs_inside n p s ≤ length cols
-  pairs_fit = few_pairs n p s ptr cols i.matrix refl
+  pairs_fit = few_pairs n p s ptr cols matrix refl
 
   module _ (inside pairs completed : ℕ) (ei : inside ≡ count_below n p) (eq : pairs ≡ pairs_inside n p s) (eh : completed ≡ hops_made g (in_mask words) h) where
     pub text-is : (members f local_ptr local_cols nodes old pointers columns : List ℕ) → members ≡ over_with_zeros (members_below n p) n nodes → f ≡ over (frontier_words g words h) old

@@ -1,7 +1,7 @@
 -- How long an answer can be: the program's list takes every one. Assumes nothing.
 use mathlib.Core.Path.{◌≡◌, refl}
 use Rattle.std.specs.Prelude.{Ok, Err}
-use Rattle.base.specs.Checks.{Check, answer}
+use Rattle.base.specs.Checks.{Check}
 use mathlib.Core.Bool.{Bool, true}
 use mathlib.Core.List.{List}
 use Prim.Native.Nat.{ℕ, ◌≤◌}

@@ -1,5 +1,6 @@
 -- What the steps of a job hand on to one another; no caller of the API needs it.
-use Rattle.std.specs.Prelude.{Bool, cond, ◌&&◌, List, ℕ, ◌≤◌, leb, length, take}
+use Rattle.std.specs.Prelude.{Bool, ◌&&◌, List, ℕ, ◌≤◌, leb, length, take}
+use Rattle.std.specs.Prelude.{Option, Some, None}
 use Rattle.base.specs.Checks.{Check}
 use Rattle.base.specs.declared.Refusal.TheVariants.{OverLimit, MalformedJob}
 use Rattle.base.specs.Checks.{must, ◌then◌}
@@ -7,16 +8,13 @@ use Rattle.csr32.specs.Matrix.{matrix_check}
 use Rattle.dof_layout.specs.Layout.{offsets_of}
 use Rattle.dof_layout.specs.Answers.{square_check}
 use Rattle.job_text.specs.Job.{Job}
+use Rattle.job_text.specs.Answer.{refused_text}
 use Rattle.job_text.specs.declared.JobRead.{JobRead}
 use Rattle.peak_job.specs.Answer.{kinds_of, ids_of, fields_of, values_of, ask_check, result_text, text_of}
 
 -- its figures have room in the arrays
 abbrev pub read_fits : JobRead → Bool
 read_fits r = leb r.size 256 && leb r.blocks 1023 && leb r.pointers 1024 && leb r.columns 1023 && leb r.seeds 1024
-
--- 27, then 1
-unfoldable pub read_check : JobRead → Check
-read_check r = must r.good MalformedJob then must (read_fits r) OverLimit
 
 -- lists with room for 1,024 numbers, masks with room for 256 nodes
 pub record Arrays (rptr ridx rmasks cptr cidx cmasks starts order region frontier scratch nodes pointers columns source_ptr sources : List ℕ) : Type 0 where
@@ -50,7 +48,9 @@ abbrev pub job_read : JobRead → List ℕ → List ℕ → List ℕ → List �
 job_read r blocks ptr cols seeds =
     record { size = r.size; blocks = take r.blocks blocks; ptr = take r.pointers ptr; cols = take r.columns cols; seeds = take r.seeds seeds; hops = r.hops }
 
-abbrev pub judged_text : JobRead → List ℕ → List ℕ → List ℕ → List ℕ → List ℕ
-judged_text r blocks ptr cols seeds =
+-- 27 where the text is no job, then 1, then the rest
+abbrev pub judged_text : Option JobRead → List ℕ → List ℕ → List ℕ → List ℕ → List ℕ
+judged_text None blocks ptr cols seeds = refused_text MalformedJob
+judged_text (Some r) blocks ptr cols seeds =
     let j = job_read r blocks ptr cols seeds in
-    text_of (read_check r then ask_check j) (result_text j)
+    text_of (must (read_fits r) OverLimit then ask_check j) (result_text j)

@@ -4,14 +4,19 @@ ghost use Rattle.base.specs.Checks.{◌then◌};
 ghost use Rattle.base.specs.Lists.{list_from};
 ghost use Rattle.base.specs.Sets.{members_below};
 ghost use Rattle.mask.specs.Mask.{words_needed, in_mask, mask_check, IsMask};
-ghost use Rattle.csr32.specs.Matrix.{matrix_check};
-ghost use Rattle.dof_layout.specs.Answers.{square_check};
+ghost use Rattle.csr32.specs.Views.{check_matrix};
+ghost use Rattle.dof_layout.specs.Views.{check_square};
 ghost use Rattle.job_text.specs.Answer.{result_lines, text_answer, text_left};
 ghost use Rattle.peak_job.specs.Answer.{region_text, text_of};
-ghost use Rattle.peak_job.specs.Steps.{read_fits, read_check, Arrays, laid_check, asked_text, judged_text};
+ghost use Rattle.peak_job.specs.Steps.{read_fits, Arrays, laid_check, asked_text, judged_text};
+ghost use Rattle.peak_job.specs.Views.{lent_text, Small};
 
 use base::Refusal;
+use csr32::Csr32Matrix;
+use dof_layout::{FieldAwareDofLayout, FieldBlocks};
 use job_text::JobRead;
+use mask::DofMask;
+use mask::inner::Mask;
 
 // Each its own place.
 fn number(ids: &mut [u64])
@@ -33,21 +38,8 @@ fn fits(job: JobRead) -> bool
         && job.seeds <= 1024
 }
 
-// 27 over the whole text, then 1.
-#[tactic(auto, using(base::proofs::Checks::checks), unfolding(crate::specs::Steps::read_check))]
-fn check_read(job: JobRead) -> Result<(), Refusal>
-    ensures { result ≡ read_check job }
-{
-    if !job.good {
-        return Err(Refusal::MalformedJob);
-    }
-    if !fits(job) {
-        return Err(Refusal::OverLimit);
-    }
-    Ok(())
-}
-
-// The five lines of a prepared region, from the fronts of its lists; the frontier's members are listed first.
+// The five lines of a prepared region, from the fronts of its lists; the frontier's members are listed first, in a fixed array, since there is no
+// heap.
 fn report(
     size: usize,
     frontier: &[u64],
@@ -65,7 +57,13 @@ fn report(
 {
     let mut edge: [u32; 256] = [0; 256];
     let need = mask::inner::words_for(size);
-    let reached = pattern::inner::write_nodes(size, &frontier[..need], &mut edge);
+    let reached = pattern::inner::write_nodes(
+        Mask {
+            len: size,
+            words: &frontier[..need],
+        },
+        &mut edge,
+    );
     let pointers = inside + 1;
     job_text::inner::write_result(
         &members[..inside],
@@ -77,18 +75,12 @@ fn report(
     )
 }
 
+// The lists that are written are parameters of their own: what is said of each is said of what it held before.
 // The region, prepared on lists that have room for it, and its five lines.
 fn prepare(
-    size: usize,
-    ptr: &[u32],
-    cols: &[u32],
-    values: &[f64],
-    kinds: &[u8],
-    ids: &[u64],
-    fields: &[u32],
-    blocks: &[u32],
-    offsets: &[u64],
-    words: &[u64],
+    matrix: Csr32Matrix,
+    layout: FieldAwareDofLayout,
+    seeds: DofMask,
     hops: u64,
     row_word_ptr: &mut [u32],
     row_word_indices: &mut [u32],
@@ -108,23 +100,15 @@ fn prepare(
     sources: &mut [u32],
     out: &mut [u8],
 ) -> Result<u64, Refusal>
-    requires { (size ≤ 256) × (length cols.now ≤ 1023) × (mask_check size words.now ≡ Ok tt) × Arrays row_word_ptr.old row_word_indices.old row_masks.old column_word_ptr.old column_word_indices.old column_masks.old starts.old order.old region.old frontier.old scratch.old members.old local_ptr.old local_cols.old source_ptr.old sources.old }
-    ensures value { result ≡ text_answer (text_of (matrix_check size size ptr.now cols.now values.now then square_check kinds.now ids.now fields.now blocks.now offsets.now size size) (region_text size ptr.now cols.now blocks.now words.now hops)) out.old }
-    ensures out_after { out.new ≡ text_left (text_of (matrix_check size size ptr.now cols.now values.now then square_check kinds.now ids.now fields.now blocks.now offsets.now size size) (region_text size ptr.now cols.now blocks.now words.now hops)) out.old }
+    requires inputs { Small matrix seeds }
+    requires room { Arrays row_word_ptr.old row_word_indices.old row_masks.old column_word_ptr.old column_word_indices.old column_masks.old starts.old order.old region.old frontier.old scratch.old members.old local_ptr.old local_cols.old source_ptr.old sources.old }
+    ensures value { result ≡ text_answer (text_of (check_matrix matrix.entry then check_square layout.entry matrix.entry.nrows matrix.entry.ncols) (lent_text matrix.entry layout.entry seeds.entry hops)) out.old }
+    ensures out_after { out.new ≡ text_left (text_of (check_matrix matrix.entry then check_square layout.entry matrix.entry.nrows matrix.entry.ncols) (lent_text matrix.entry layout.entry seeds.entry hops)) out.old }
 {
     match prepared_field_region::prepare_region(
-        size,
-        size,
-        ptr,
-        cols,
-        values,
-        kinds,
-        ids,
-        fields,
-        blocks,
-        offsets,
-        size,
-        words,
+        matrix,
+        layout,
+        seeds,
         hops,
         row_word_ptr,
         row_word_indices,
@@ -148,7 +132,7 @@ fn prepare(
             let growth = p.growth;
             let pattern = p.pattern;
             report(
-                size,
+                matrix.nrows,
                 frontier,
                 growth.hops_completed,
                 pattern.local_nodes as usize,
@@ -162,24 +146,17 @@ fn prepare(
     }
 }
 
-// The same on arrays of its own.
+// The same on arrays of its own, of a fixed length, since there is no heap.
 fn cut(
-    size: usize,
-    ptr: &[u32],
-    cols: &[u32],
-    values: &[f64],
-    kinds: &[u8],
-    ids: &[u64],
-    fields: &[u32],
-    blocks: &[u32],
-    offsets: &[u64],
-    words: &[u64],
+    matrix: Csr32Matrix,
+    layout: FieldAwareDofLayout,
+    seeds: DofMask,
     hops: u64,
     out: &mut [u8],
 ) -> Result<u64, Refusal>
-    requires { (size ≤ 256) × (length cols.now ≤ 1023) × (mask_check size words.now ≡ Ok tt) }
-    ensures value { result ≡ text_answer (text_of (matrix_check size size ptr.now cols.now values.now then square_check kinds.now ids.now fields.now blocks.now offsets.now size size) (region_text size ptr.now cols.now blocks.now words.now hops)) out.old }
-    ensures out_after { out.new ≡ text_left (text_of (matrix_check size size ptr.now cols.now values.now then square_check kinds.now ids.now fields.now blocks.now offsets.now size size) (region_text size ptr.now cols.now blocks.now words.now hops)) out.old }
+    requires { Small matrix seeds }
+    ensures value { result ≡ text_answer (text_of (check_matrix matrix.entry then check_square layout.entry matrix.entry.nrows matrix.entry.ncols) (lent_text matrix.entry layout.entry seeds.entry hops)) out.old }
+    ensures out_after { out.new ≡ text_left (text_of (check_matrix matrix.entry then check_square layout.entry matrix.entry.nrows matrix.entry.ncols) (lent_text matrix.entry layout.entry seeds.entry hops)) out.old }
 {
     let mut row_word_ptr: [u32; 1024] = [0; 1024];
     let mut row_word_indices: [u32; 1024] = [0; 1024];
@@ -198,16 +175,9 @@ fn cut(
     let mut source_ptr: [u32; 1024] = [0; 1024];
     let mut sources: [u32; 1024] = [0; 1024];
     prepare(
-        size,
-        ptr,
-        cols,
-        values,
-        kinds,
-        ids,
-        fields,
-        blocks,
-        offsets,
-        words,
+        matrix,
+        layout,
+        seeds,
         hops,
         &mut row_word_ptr,
         &mut row_word_indices,
@@ -229,12 +199,33 @@ fn cut(
     )
 }
 
-// The layout of the blocks and the matrix's values, then the region.
-fn lay_out(
+// Lists of their own, as a layout.
+fn layout<'a>(
+    entity_kinds: &'a [u8],
+    entity_ids: &'a [u64],
+    field_ids: &'a [u32],
+    components: &'a [u32],
+    offsets: &'a [u64],
+) -> FieldAwareDofLayout<'a>
+    ensures { result ≡ record { blocks = record { entity_kinds = entity_kinds.entry; entity_ids = entity_ids.entry; field_ids = field_ids.entry; components = components.entry }; offsets = offsets.entry } }
+{
+    FieldAwareDofLayout {
+        blocks: FieldBlocks {
+            entity_kinds,
+            entity_ids,
+            field_ids,
+            components,
+        },
+        offsets,
+    }
+}
+
+// The layout of the blocks and the matrix's values, in fixed arrays, since there is no heap, then the region.
+fn lay_out<'a>(
     size: usize,
     blocks: &[u32],
-    ptr: &[u32],
-    cols: &[u32],
+    ptr: &'a [u32],
+    cols: &'a [u32],
     words: &[u64],
     hops: u64,
     out: &mut [u8],
@@ -253,23 +244,25 @@ fn lay_out(
     let count = blocks.len();
     let last = count + 1;
     let entries = cols.len();
-    cut(
-        size,
-        ptr,
-        cols,
-        &values[0..entries],
+    let matrix = Csr32Matrix {
+        nrows: size,
+        ncols: size,
+        row_ptr: ptr,
+        col_idx: cols,
+        values: &values[0..entries],
+    };
+    let laid = layout(
         &kinds[0..count],
         &ids[0..count],
         &fields[0..count],
         blocks,
         &offsets[0..last],
-        words,
-        hops,
-        out,
-    )
+    );
+    let seeds = DofMask { len: size, words };
+    cut(matrix, laid, seeds, hops, out)
 }
 
-// 13 for the seeds, then the prepared region's order.
+// 13 for the seeds, whose mask is a fixed array, since there is no heap, then the prepared region's order.
 fn ask(
     size: usize,
     blocks: &[u32],
@@ -295,7 +288,7 @@ fn ask(
 
 // 27, then 1, then the rest, of a job that was read into the fronts of four lists.
 pub fn judge(
-    job: JobRead,
+    read: Option<JobRead>,
     blocks: &[u32],
     ptr: &[u32],
     cols: &[u32],
@@ -303,25 +296,22 @@ pub fn judge(
     out: &mut [u8],
 ) -> Result<u64, Refusal>
     requires { (length blocks.now ≡ 1024) × (length ptr.now ≡ 1024) × (length cols.now ≡ 1024) × (length seeds.now ≡ 1024) }
-    ensures value { result ≡ text_answer (judged_text job blocks.now ptr.now cols.now seeds.now) out.old }
-    ensures out_after { out.new ≡ text_left (judged_text job blocks.now ptr.now cols.now seeds.now) out.old }
+    ensures value { result ≡ text_answer (judged_text read blocks.now ptr.now cols.now seeds.now) out.old }
+    ensures out_after { out.new ≡ text_left (judged_text read blocks.now ptr.now cols.now seeds.now) out.old }
 {
-    match check_read(job) {
-        Err(r) => job_text::inner::refuse(r, out),
-        Ok(()) => {
-            let a = job.blocks;
-            let b = job.pointers;
-            let c = job.columns;
-            let d = job.seeds;
-            ask(
-                job.size as usize,
-                &blocks[..a],
-                &ptr[..b],
-                &cols[..c],
-                &seeds[..d],
-                job.hops,
-                out,
-            )
-        }
+    let Some(job) = read else {
+        return job_text::inner::refuse(Refusal::MalformedJob, out);
+    };
+    if !fits(job) {
+        return job_text::inner::refuse(Refusal::OverLimit, out);
     }
+    ask(
+        job.size as usize,
+        &blocks[..job.blocks],
+        &ptr[..job.pointers],
+        &cols[..job.columns],
+        &seeds[..job.seeds],
+        job.hops,
+        out,
+    )
 }

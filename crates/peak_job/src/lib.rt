@@ -10,7 +10,8 @@ use base::Refusal;
 
 pub mod inner;
 
-// How many bytes the answer's text has, which stands at the front of `out`; 25 where that is shorter.
+// How many bytes the answer's text has, which stands at the front of `out`; 25 where that is shorter. The job's lists are fixed arrays, since there
+// is no heap.
 pub fn run(input: &[u8], out: &mut [u8]) -> Result<u64, Refusal>
     ensures value { result ≡ text_answer (answer_text input.now) out.old }
     ensures out_after { out.new ≡ text_left (answer_text input.now) out.old }

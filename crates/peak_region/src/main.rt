@@ -6,6 +6,7 @@ use std::io::{self, Write};
 use streams::read_full;
 
 // One byte more than a job may have is read, so that a longer text is told apart. The list takes the longest answer (`answer-short` of peak_job).
+// Both are fixed arrays, since there is no heap.
 fn main(rt: HostRuntime) -> io::Result<()> {
     let mut input = [0u8; 16385];
     let got = read_full(&mut rt.reader(), &mut input)?;

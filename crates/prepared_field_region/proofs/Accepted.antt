@@ -1,26 +1,24 @@
 -- What acceptance gives a prepared region: inputs of one side, and lists that reach their needed lengths. Assumes nothing.
 use mathlib.Core.Path.{◌≡◌, sym, ◌∙◌, subst}
-use Rattle.std.specs.Prelude.{Ok}
+use Rattle.std.specs.Prelude.{Ok, Err, IfOk}
 use Rattle.base.specs.Checks.{Check}
 use mathlib.Core.List.{List}
-use Prim.Native.Nat.{ℕ, ◌^◌, ◌≤◌, ◌<◌}
+use Prim.Native.Nat.{ℕ, ◌≤◌, ◌<◌}
 use borrow.Author.Tests.{leb-true, ltb-true}
 use lib.Ieee.{Float}
-use lib.ListN.{length, get_or}
+use lib.ListN.{length}
 use Rattle.base.proofs.Checks.{both-passed, passed}
 use Rattle.csr32.specs.Matrix.{matrix_check, IsMatrix}
 use Rattle.csr32.proofs.Matrix.{accepted}
-use Rattle.mask.proofs.Masks.{accepted-length}
 use Rattle.dof_layout.specs.Layout.{total_of, layout_check, IsLayout}
 use Rattle.dof_layout.specs.Answers.{square_check}
-use Rattle.dof_layout.proofs.Layouts.{none-empty}
 use Rattle.dual_topology.proofs.Built.{build-fits}
 use Rattle.growth.proofs.Lent.{masks-fit}
 use Rattle.field_region.specs.Owners.{owners_check}
 use Rattle.field_region.proofs.Accepted.{accepted-square}
 use Rattle.field_region.proofs.Owning.{accepted-owners}
 use Rattle.prepared_field_region.specs.Prepared.{local_room, prepare_room, prepare_inputs, block_owners_check}
-use Rattle.cutting.specs.Steps.{LocalFits, MasksFit, Inputs}
+use Rattle.cutting.specs.Steps.{LocalFits, MasksFit}
 
 -- the layout comes before 18
 pub square-layout : (kinds ids fields components offsets : List ℕ) (nrows ncols : ℕ) → square_check kinds ids fields components offsets nrows ncols ≡ Ok tt
@@ -39,23 +37,10 @@ accepted-matrix nrows ncols ptr cols values kinds ids fields components offsets 
     let same : ncols ≡ nrows = q.2 ∙ sym q.1 in
     (subst (λ (k : ℕ). IsMatrix nrows k ptr cols) same (accepted nrows ncols ptr cols values a.0).matrix, same)
 
-pub accepted-inputs : (nrows ncols : ℕ) (ptr cols : List ℕ) (values : List Float) (kinds ids fields components offsets : List ℕ) (len : ℕ) (seeds : List ℕ) → ((k : ℕ) → get_or seeds k 0 < 2 ^ 64)
-    → prepare_inputs (matrix_check nrows ncols ptr cols values) (square_check kinds ids fields components offsets nrows ncols) nrows len seeds ≡ Ok tt
-    → Inputs nrows ptr cols components offsets seeds × (ncols ≡ nrows)
-unfolding prepare_inputs
-accepted-inputs nrows ncols ptr cols values kinds ids fields components offsets len seeds bits e =
-    let b = both-passed _ _ (both-passed _ _ e).1 in
-    let m = accepted-matrix nrows ncols ptr cols values kinds ids fields components offsets len seeds e in
-    let q = accepted-square kinds ids fields components offsets nrows ncols b.0 in (
-      record {
-        matrix = m.0;
-        side = q.1;
-        running = q.0.running;
-        filled = none-empty kinds ids fields components q.0.blocks;
-        mask = (accepted-length nrows len seeds m.0.few_rows bits b.1).1;
-      },
-      m.1,
-    )
+-- what a refusal of the check says is known of an accepted result
+pub if-accepted : {P : Type 0} (result check : Check) → result ≡ check → (check ≡ Ok tt → P) → IfOk result (λ t. P)
+if-accepted (Ok tt) check e f = f (sym e)
+if-accepted (Err r) check e f = tt
 
 local_fits : (n entries : ℕ) (nodes ptr cols source_ptr sources : List ℕ) → local_room n entries (length nodes) (length ptr) (length cols) (length source_ptr) (length sources) ≡ Ok tt
     → LocalFits n entries nodes ptr cols source_ptr sources

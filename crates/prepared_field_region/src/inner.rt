@@ -1,114 +1,69 @@
 // The steps of a prepared region, for callers that have checked: no part of the API. Nothing that was built is checked again.
-ghost use Rattle.std.specs.Prelude.{◌≡◌, ◌+◌, ◌<◌, ◌≤◌, length, replicate};
+ghost use Rattle.std.specs.Prelude.{◌≡◌, IfOk, ◌+◌, ◌<◌, ◌≤◌, length, replicate};
 ghost use Rattle.base.specs.Checks.{◌then◌, side_limit};
 ghost use Rattle.base.specs.Lists.{over, over_with_zeros};
 ghost use Rattle.base.specs.Sets.{members_below};
-ghost use Rattle.csr32.specs.Matrix.{matrix_check, stored};
+ghost use Rattle.csr32.specs.Views.{check_matrix, entries};
 ghost use Rattle.mask.specs.Mask.{words_needed};
-ghost use Rattle.dof_layout.specs.Layout.{total_of, layout_check};
-ghost use Rattle.dof_layout.specs.Answers.{square_check};
+ghost use Rattle.dof_layout.specs.Layout.{total_of};
+ghost use Rattle.dof_layout.specs.Views.{check_layout, check_square};
 ghost use Rattle.side.specs.Side.{flip, side_ptr, side_words, side_masks};
 ghost use Rattle.graph.specs.Network.{region_words, frontier_words};
 ghost use Rattle.field_region.specs.Owners.{owned_check};
 ghost use Rattle.pattern.specs.Pattern.{pattern_ptr, pattern_columns};
 ghost use Rattle.gather.specs.Plan.{plan_sources, plan_ptr};
 ghost use Rattle.cutting.specs.Cut.{network_of, region_of, lists_of};
-ghost use Rattle.cutting.specs.Steps.{LocalFits, MasksFit, Inputs};
-ghost use Rattle.prepared_field_region.specs.Prepared.{local_room, prepare_room, prepare_inputs, block_owners_check, prepared_of};
+ghost use Rattle.cutting.specs.Steps.{LocalFits, MasksFit};
+ghost use Rattle.prepared_field_region.specs.Prepared.{local_room, prepare_room, block_owners_check, prepared_of};
+ghost use Rattle.prepared_field_region.specs.Views.{check_lent, SoundSystem, SoundInputs};
 
 use crate::PreparedFieldAwareLocalRegion;
 use base::Refusal;
+use csr32::Csr32Matrix;
+use csr32::inner::Matrix;
+use dof_layout::FieldAwareDofLayout;
+use dof_layout::inner::Layout;
+use mask::DofMask;
+use mask::inner::Mask;
 
 // The matrix, the layout against it.
-fn check_system(
-    nrows: usize,
-    ncols: usize,
-    row_ptr: &[u32],
-    col_idx: &[u32],
-    values: &[f64],
-    entity_kinds: &[u8],
-    entity_ids: &[u64],
-    field_ids: &[u32],
-    components: &[u32],
-    offsets: &[u64],
-) -> Result<(), Refusal>
-    ensures { result ≡ (matrix_check nrows ncols row_ptr.now col_idx.now values.now then square_check entity_kinds.now entity_ids.now field_ids.now components.now offsets.now nrows ncols) }
+fn check_system(matrix: Csr32Matrix, layout: FieldAwareDofLayout) -> Result<(), Refusal>
+    ensures value { result ≡ (check_matrix matrix.entry then check_square layout.entry matrix.entry.nrows matrix.entry.ncols) }
+    ensures accepted { IfOk result (λ t. SoundSystem matrix.entry layout.entry) }
 {
-    csr32::validate(nrows, ncols, row_ptr, col_idx, values)?;
-    dof_layout::validate_square_matrix_size(
-        entity_kinds,
-        entity_ids,
-        field_ids,
-        components,
-        offsets,
-        nrows,
-        ncols,
-    )
+    matrix.validate()?;
+    layout.validate_square_matrix_size(matrix.nrows, matrix.ncols)
 }
 
 // The matrix, the layout against it, the mask.
 pub fn check_inputs(
-    nrows: usize,
-    ncols: usize,
-    row_ptr: &[u32],
-    col_idx: &[u32],
-    values: &[f64],
-    entity_kinds: &[u8],
-    entity_ids: &[u64],
-    field_ids: &[u32],
-    components: &[u32],
-    offsets: &[u64],
-    len: usize,
-    words: &[u64],
+    matrix: Csr32Matrix,
+    layout: FieldAwareDofLayout,
+    seeds: DofMask,
 ) -> Result<(), Refusal>
-    ensures { result ≡ prepare_inputs (matrix_check nrows ncols row_ptr.now col_idx.now values.now) (square_check entity_kinds.now entity_ids.now field_ids.now components.now offsets.now nrows ncols) nrows len words.now }
+    ensures value { result ≡ check_lent matrix.entry layout.entry seeds.entry }
+    ensures accepted { IfOk result (λ t. SoundInputs matrix.entry layout.entry seeds.entry) }
 {
-    check_system(
-        nrows,
-        ncols,
-        row_ptr,
-        col_idx,
-        values,
-        entity_kinds,
-        entity_ids,
-        field_ids,
-        components,
-        offsets,
-    )?;
-    mask::inner::check_length(nrows, len, words)
+    check_system(matrix, layout)?;
+    mask::inner::check_length(matrix.nrows, seeds.len, seeds.words)
 }
 
 // The matrix, the layout against it, then all that follows the layout in a check of owners.
 pub fn check_owners(
-    nrows: usize,
-    ncols: usize,
-    row_ptr: &[u32],
-    col_idx: &[u32],
-    values: &[f64],
-    entity_kinds: &[u8],
-    entity_ids: &[u64],
-    field_ids: &[u32],
-    components: &[u32],
-    offsets: &[u64],
+    matrix: Csr32Matrix,
+    layout: FieldAwareDofLayout,
     dof_owners: &[u32],
     ranks: u32,
     room: usize,
 ) -> Result<(), Refusal>
-    ensures { result ≡ block_owners_check (matrix_check nrows ncols row_ptr.now col_idx.now values.now) (square_check entity_kinds.now entity_ids.now field_ids.now components.now offsets.now nrows ncols) (layout_check entity_kinds.now entity_ids.now field_ids.now components.now offsets.now then owned_check components.now dof_owners.now ranks room) }
+    ensures { result ≡ block_owners_check (check_matrix matrix.entry) (check_square layout.entry matrix.entry.nrows matrix.entry.ncols) (check_layout layout.entry then owned_check layout.entry.blocks.components.now dof_owners.now ranks room) }
 {
-    check_system(
-        nrows,
-        ncols,
-        row_ptr,
-        col_idx,
-        values,
-        entity_kinds,
-        entity_ids,
-        field_ids,
-        components,
-        offsets,
-    )?;
-    field_region::inner::check_owned(components, offsets, dof_owners, ranks, room)
+    check_system(matrix, layout)?;
+    let blocks = Layout {
+        components: layout.blocks.components,
+        offsets: layout.offsets,
+    };
+    field_region::inner::check_owned(blocks, dof_owners, ranks, room)
 }
 
 // The lengths of the lists of pattern and plan.
@@ -191,15 +146,11 @@ pub fn check_room(
     )
 }
 
-// All steps, on lists that reach their needed lengths.
-pub fn prepare(
-    nrows: usize,
-    ncols: usize,
-    row_ptr: &[u32],
-    col_idx: &[u32],
-    components: &[u32],
-    offsets: &[u64],
-    seeds: &[u64],
+// All steps, on lists that reach their needed lengths. As lists that are written they stand alone.
+pub fn prepare<'a>(
+    matrix: Matrix<'a>,
+    layout: Layout<'a>,
+    seeds: Mask,
     hops: u64,
     row_word_ptr: &mut [u32],
     row_word_indices: &mut [u32],
@@ -218,32 +169,29 @@ pub fn prepare(
     source_ptr: &mut [u32],
     source_indices: &mut [u32],
 ) -> PreparedFieldAwareLocalRegion
-    requires inputs { Inputs nrows row_ptr.now col_idx.now components.now offsets.now seeds.now × (ncols ≡ nrows) }
-    requires building { (nrows < length row_word_ptr.old) × (length col_idx.now ≤ length row_word_indices.old) × (length col_idx.now ≤ length row_masks.old) × (ncols < length column_word_ptr.old) × (length col_idx.now ≤ length column_word_indices.old) × (length col_idx.now ≤ length column_masks.old) × (ncols < length starts.old) × (length col_idx.now ≤ length order.old) }
-    requires room { MasksFit nrows region.old frontier.old scratch.old × LocalFits nrows (length col_idx.now) global_nodes.old local_row_ptr.old local_col_idx.old source_ptr.old source_indices.old }
-    ensures value { result ≡ prepared_of nrows ncols row_ptr.now col_idx.now components.now seeds.now hops }
-    ensures row_pointers { row_word_ptr.new ≡ over (side_ptr nrows ncols (stored row_ptr.now col_idx.now)) row_word_ptr.old }
-    ensures row_words { row_word_indices.new ≡ over_with_zeros (side_words nrows ncols (stored row_ptr.now col_idx.now)) (length col_idx.now) row_word_indices.old }
-    ensures row_masked { row_masks.new ≡ over_with_zeros (side_masks nrows ncols (stored row_ptr.now col_idx.now)) (length col_idx.now) row_masks.old }
-    ensures column_pointers { column_word_ptr.new ≡ over (side_ptr ncols nrows (flip (stored row_ptr.now col_idx.now))) column_word_ptr.old }
-    ensures column_words { column_word_indices.new ≡ over_with_zeros (side_words ncols nrows (flip (stored row_ptr.now col_idx.now))) (length col_idx.now) column_word_indices.old }
-    ensures column_masked { column_masks.new ≡ over_with_zeros (side_masks ncols nrows (flip (stored row_ptr.now col_idx.now))) (length col_idx.now) column_masks.old }
-    ensures scratch_starts { starts.new ≡ over (replicate (ncols + 1) 0) starts.old }
-    ensures scratch_order { order.new ≡ over (replicate (length col_idx.now) 0) order.old }
-    ensures inside { region.new ≡ over (region_words (network_of row_ptr.now col_idx.now components.now) seeds.now hops) region.old }
-    ensures edge { frontier.new ≡ over (frontier_words (network_of row_ptr.now col_idx.now components.now) seeds.now hops) frontier.old }
-    ensures spent { scratch.new ≡ over (replicate (words_needed (total_of components.now)) 0) scratch.old }
-    ensures members { global_nodes.new ≡ over_with_zeros (members_below nrows (region_of row_ptr.now col_idx.now components.now seeds.now hops)) nrows global_nodes.old }
-    ensures pointers { local_row_ptr.new ≡ over_with_zeros (pattern_ptr nrows (region_of row_ptr.now col_idx.now components.now seeds.now hops) (stored row_ptr.now col_idx.now)) (nrows + 1) local_row_ptr.old }
-    ensures columns { local_col_idx.new ≡ over_with_zeros (pattern_columns nrows (region_of row_ptr.now col_idx.now components.now seeds.now hops) (stored row_ptr.now col_idx.now)) (length col_idx.now) local_col_idx.old }
-    ensures source_pointers { source_ptr.new ≡ over_with_zeros (plan_ptr (lists_of nrows (region_of row_ptr.now col_idx.now components.now seeds.now hops) row_ptr.now col_idx.now)) ((length col_idx.now) + 1) source_ptr.old }
-    ensures sources { source_indices.new ≡ over_with_zeros (plan_sources (lists_of nrows (region_of row_ptr.now col_idx.now components.now seeds.now hops) row_ptr.now col_idx.now)) (length col_idx.now) source_indices.old }
+    requires sizes { (matrix.ncols ≡ matrix.nrows) × (matrix.nrows ≡ total_of layout.components.now) × (seeds.len ≡ matrix.nrows) }
+    requires building { (matrix.nrows < length row_word_ptr.old) × (length matrix.col_idx.now ≤ length row_word_indices.old) × (length matrix.col_idx.now ≤ length row_masks.old) × (matrix.ncols < length column_word_ptr.old) × (length matrix.col_idx.now ≤ length column_word_indices.old) × (length matrix.col_idx.now ≤ length column_masks.old) × (matrix.ncols < length starts.old) × (length matrix.col_idx.now ≤ length order.old) }
+    requires room { MasksFit matrix.nrows region.old frontier.old scratch.old × LocalFits matrix.nrows (length matrix.col_idx.now) global_nodes.old local_row_ptr.old local_col_idx.old source_ptr.old source_indices.old }
+    ensures value { result ≡ prepared_of matrix.entry.nrows matrix.entry.ncols matrix.entry.row_ptr.now matrix.entry.col_idx.now layout.entry.components.now seeds.entry.words.now hops }
+    ensures row_pointers { row_word_ptr.new ≡ over (side_ptr matrix.entry.nrows matrix.entry.ncols (entries matrix.entry)) row_word_ptr.old }
+    ensures row_words { row_word_indices.new ≡ over_with_zeros (side_words matrix.entry.nrows matrix.entry.ncols (entries matrix.entry)) (length matrix.entry.col_idx.now) row_word_indices.old }
+    ensures row_masked { row_masks.new ≡ over_with_zeros (side_masks matrix.entry.nrows matrix.entry.ncols (entries matrix.entry)) (length matrix.entry.col_idx.now) row_masks.old }
+    ensures column_pointers { column_word_ptr.new ≡ over (side_ptr matrix.entry.ncols matrix.entry.nrows (flip (entries matrix.entry))) column_word_ptr.old }
+    ensures column_words { column_word_indices.new ≡ over_with_zeros (side_words matrix.entry.ncols matrix.entry.nrows (flip (entries matrix.entry))) (length matrix.entry.col_idx.now) column_word_indices.old }
+    ensures column_masked { column_masks.new ≡ over_with_zeros (side_masks matrix.entry.ncols matrix.entry.nrows (flip (entries matrix.entry))) (length matrix.entry.col_idx.now) column_masks.old }
+    ensures scratch_starts { starts.new ≡ over (replicate (matrix.entry.ncols + 1) 0) starts.old }
+    ensures scratch_order { order.new ≡ over (replicate (length matrix.entry.col_idx.now) 0) order.old }
+    ensures inside { region.new ≡ over (region_words (network_of matrix.entry.row_ptr.now matrix.entry.col_idx.now layout.entry.components.now) seeds.entry.words.now hops) region.old }
+    ensures edge { frontier.new ≡ over (frontier_words (network_of matrix.entry.row_ptr.now matrix.entry.col_idx.now layout.entry.components.now) seeds.entry.words.now hops) frontier.old }
+    ensures spent { scratch.new ≡ over (replicate (words_needed (total_of layout.entry.components.now)) 0) scratch.old }
+    ensures members { global_nodes.new ≡ over_with_zeros (members_below matrix.entry.nrows (region_of matrix.entry.row_ptr.now matrix.entry.col_idx.now layout.entry.components.now seeds.entry.words.now hops)) matrix.entry.nrows global_nodes.old }
+    ensures pointers { local_row_ptr.new ≡ over_with_zeros (pattern_ptr matrix.entry.nrows (region_of matrix.entry.row_ptr.now matrix.entry.col_idx.now layout.entry.components.now seeds.entry.words.now hops) (entries matrix.entry)) (matrix.entry.nrows + 1) local_row_ptr.old }
+    ensures columns { local_col_idx.new ≡ over_with_zeros (pattern_columns matrix.entry.nrows (region_of matrix.entry.row_ptr.now matrix.entry.col_idx.now layout.entry.components.now seeds.entry.words.now hops) (entries matrix.entry)) (length matrix.entry.col_idx.now) local_col_idx.old }
+    ensures source_pointers { source_ptr.new ≡ over_with_zeros (plan_ptr (lists_of matrix.entry.nrows (region_of matrix.entry.row_ptr.now matrix.entry.col_idx.now layout.entry.components.now seeds.entry.words.now hops) matrix.entry.row_ptr.now matrix.entry.col_idx.now)) ((length matrix.entry.col_idx.now) + 1) source_ptr.old }
+    ensures sources { source_indices.new ≡ over_with_zeros (plan_sources (lists_of matrix.entry.nrows (region_of matrix.entry.row_ptr.now matrix.entry.col_idx.now layout.entry.components.now seeds.entry.words.now hops) matrix.entry.row_ptr.now matrix.entry.col_idx.now)) (length matrix.entry.col_idx.now) source_indices.old }
 {
     let counts = dual_topology::inner::build(
-        nrows,
-        ncols,
-        row_ptr,
-        col_idx,
+        matrix,
         row_word_ptr,
         row_word_indices,
         row_masks,
@@ -253,25 +201,23 @@ pub fn prepare(
         starts,
         order,
     );
-    let topology = dual_topology::inner::stats(nrows, ncols, counts);
-    let row_pointers = nrows + 1;
-    let column_pointers = ncols + 1;
-    let rows = counts.row_words as usize;
-    let columns = counts.column_words as usize;
+    let n = matrix.nrows;
+    let topology = dual_topology::inner::stats(n, matrix.ncols, counts);
+    let row_pointers = n + 1;
+    let column_pointers = matrix.ncols + 1;
+    let row_words = counts.row_words as usize;
+    let column_words = counts.column_words as usize;
     let whole = cutting::inner::cut(
-        nrows,
+        matrix,
+        layout,
         &row_word_ptr[..row_pointers],
-        &row_word_indices[..rows],
-        &row_masks[..rows],
+        &row_word_indices[..row_words],
+        &row_masks[..row_words],
         &column_word_ptr[..column_pointers],
-        &column_word_indices[..columns],
-        &column_masks[..columns],
-        components,
-        offsets,
+        &column_word_indices[..column_words],
+        &column_masks[..column_words],
         seeds,
         hops,
-        row_ptr,
-        col_idx,
         region,
         frontier,
         scratch,

@@ -1,22 +1,27 @@
 // A region prepared from a matrix, a layout and seeds, prepared_field_region.rs of the Rust: the topology is built, the region grown, its pattern and
 // its numeric plan made, after one check. What the Rust keeps in a `PreparedFieldAwareTopology` are plain arguments here.
-#![tactic(auto)]
+#![tactic(auto, using(dof_layout::proofs::Layouts::views))]
 
 ghost use Rattle.std.specs.Prelude.{◌≡◌, ◌+◌, length};
-ghost use Rattle.csr32.specs.Matrix.{matrix_check, stored};
-ghost use Rattle.dof_layout.specs.Layout.{total_of};
-ghost use Rattle.dof_layout.specs.Answers.{square_check};
+ghost use Rattle.csr32.specs.Views.{stores};
+ghost use Rattle.dof_layout.specs.Views.{total};
 ghost use Rattle.side.specs.Side.{flip};
 ghost use Rattle.side.specs.Built.{built_ptr, built_words, built_masks};
 ghost use Rattle.dual_topology.specs.Answers.{scratch as zeros};
 ghost use Rattle.growth.specs.Lent.{region_left, frontier_left, scratch_left};
-ghost use Rattle.field_region.specs.Owners.{owners_check, owners_answer, owners_list};
-ghost use Rattle.cutting.specs.Cut.{network_of, region_of, lists_of};
-ghost use Rattle.prepared_field_region.specs.Prepared.{prepare_room, prepare_inputs, prepare_check, block_owners_check, prepared_of, prepare_answer, prepared_nodes, prepared_ptr, prepared_columns, prepared_source_ptr, prepared_sources};
+ghost use Rattle.field_region.specs.Owners.{owners_answer, owners_list};
+ghost use Rattle.prepared_field_region.specs.Prepared.{prepare_answer, prepared_nodes, prepared_ptr, prepared_columns, prepared_source_ptr, prepared_sources};
+ghost use Rattle.prepared_field_region.specs.Views.{check_prepare, check_block_owners, network, grown, lists, prepared};
 
 use base::Refusal;
+use csr32::Csr32Matrix;
+use csr32::inner::Matrix;
+use dof_layout::FieldAwareDofLayout;
+use dof_layout::inner::Layout;
 use dual_topology::{AbtmDualTopologyStats, TopologyCounts};
 use field_region::FieldAwareRegionStats;
+use mask::DofMask;
+use mask::inner::Mask;
 use numeric_plan::AbtmLocalNumericPlanStats;
 use pattern::AbtmLocalSubmatrixPatternStats;
 
@@ -58,21 +63,13 @@ impl PreparedFieldAwareLocalRegion {
     }
 }
 
+// The lists that are written are parameters of their own: what is said of each is said of what it held before.
 // The topology's eight lists are lent as to `from_csr32`, the three masks as to a growth; the last five take side members, side + 1 pointers, a column
 // and a source for each entry, and a source pointer for each entry and one.
 pub fn prepare_region(
-    nrows: usize,
-    ncols: usize,
-    row_ptr: &[u32],
-    col_idx: &[u32],
-    values: &[f64],
-    entity_kinds: &[u8],
-    entity_ids: &[u64],
-    field_ids: &[u32],
-    components: &[u32],
-    offsets: &[u64],
-    len: usize,
-    words: &[u64],
+    matrix: Csr32Matrix,
+    layout: FieldAwareDofLayout,
+    seeds: DofMask,
     hops: u64,
     row_word_ptr: &mut [u32],
     row_word_indices: &mut [u32],
@@ -91,42 +88,29 @@ pub fn prepare_region(
     source_ptr: &mut [u32],
     source_indices: &mut [u32],
 ) -> Result<PreparedFieldAwareLocalRegion, Refusal>
-    ensures value { result ≡ prepare_answer (prepare_check (prepare_inputs (matrix_check nrows ncols row_ptr.now col_idx.now values.now) (square_check entity_kinds.now entity_ids.now field_ids.now components.now offsets.now nrows ncols) nrows len words.now) (prepare_room nrows ncols (length col_idx.now) (length row_word_ptr.old) (length row_word_indices.old) (length row_masks.old) (length column_word_ptr.old) (length column_word_indices.old) (length column_masks.old) (length starts.old) (length order.old) (length region.old) (length frontier.old) (length scratch.old) (length global_nodes.old) (length local_row_ptr.old) (length local_col_idx.old) (length source_ptr.old) (length source_indices.old))) (prepared_of nrows ncols row_ptr.now col_idx.now components.now words.now hops) }
-    ensures row_pointers { row_word_ptr.new ≡ built_ptr (prepare_check (prepare_inputs (matrix_check nrows ncols row_ptr.now col_idx.now values.now) (square_check entity_kinds.now entity_ids.now field_ids.now components.now offsets.now nrows ncols) nrows len words.now) (prepare_room nrows ncols (length col_idx.now) (length row_word_ptr.old) (length row_word_indices.old) (length row_masks.old) (length column_word_ptr.old) (length column_word_indices.old) (length column_masks.old) (length starts.old) (length order.old) (length region.old) (length frontier.old) (length scratch.old) (length global_nodes.old) (length local_row_ptr.old) (length local_col_idx.old) (length source_ptr.old) (length source_indices.old))) nrows ncols (stored row_ptr.now col_idx.now) row_word_ptr.old }
-    ensures row_words { row_word_indices.new ≡ built_words (prepare_check (prepare_inputs (matrix_check nrows ncols row_ptr.now col_idx.now values.now) (square_check entity_kinds.now entity_ids.now field_ids.now components.now offsets.now nrows ncols) nrows len words.now) (prepare_room nrows ncols (length col_idx.now) (length row_word_ptr.old) (length row_word_indices.old) (length row_masks.old) (length column_word_ptr.old) (length column_word_indices.old) (length column_masks.old) (length starts.old) (length order.old) (length region.old) (length frontier.old) (length scratch.old) (length global_nodes.old) (length local_row_ptr.old) (length local_col_idx.old) (length source_ptr.old) (length source_indices.old))) nrows ncols (stored row_ptr.now col_idx.now) (length col_idx.now) row_word_indices.old }
-    ensures row_masked { row_masks.new ≡ built_masks (prepare_check (prepare_inputs (matrix_check nrows ncols row_ptr.now col_idx.now values.now) (square_check entity_kinds.now entity_ids.now field_ids.now components.now offsets.now nrows ncols) nrows len words.now) (prepare_room nrows ncols (length col_idx.now) (length row_word_ptr.old) (length row_word_indices.old) (length row_masks.old) (length column_word_ptr.old) (length column_word_indices.old) (length column_masks.old) (length starts.old) (length order.old) (length region.old) (length frontier.old) (length scratch.old) (length global_nodes.old) (length local_row_ptr.old) (length local_col_idx.old) (length source_ptr.old) (length source_indices.old))) nrows ncols (stored row_ptr.now col_idx.now) (length col_idx.now) row_masks.old }
-    ensures column_pointers { column_word_ptr.new ≡ built_ptr (prepare_check (prepare_inputs (matrix_check nrows ncols row_ptr.now col_idx.now values.now) (square_check entity_kinds.now entity_ids.now field_ids.now components.now offsets.now nrows ncols) nrows len words.now) (prepare_room nrows ncols (length col_idx.now) (length row_word_ptr.old) (length row_word_indices.old) (length row_masks.old) (length column_word_ptr.old) (length column_word_indices.old) (length column_masks.old) (length starts.old) (length order.old) (length region.old) (length frontier.old) (length scratch.old) (length global_nodes.old) (length local_row_ptr.old) (length local_col_idx.old) (length source_ptr.old) (length source_indices.old))) ncols nrows (flip (stored row_ptr.now col_idx.now)) column_word_ptr.old }
-    ensures column_words { column_word_indices.new ≡ built_words (prepare_check (prepare_inputs (matrix_check nrows ncols row_ptr.now col_idx.now values.now) (square_check entity_kinds.now entity_ids.now field_ids.now components.now offsets.now nrows ncols) nrows len words.now) (prepare_room nrows ncols (length col_idx.now) (length row_word_ptr.old) (length row_word_indices.old) (length row_masks.old) (length column_word_ptr.old) (length column_word_indices.old) (length column_masks.old) (length starts.old) (length order.old) (length region.old) (length frontier.old) (length scratch.old) (length global_nodes.old) (length local_row_ptr.old) (length local_col_idx.old) (length source_ptr.old) (length source_indices.old))) ncols nrows (flip (stored row_ptr.now col_idx.now)) (length col_idx.now) column_word_indices.old }
-    ensures column_masked { column_masks.new ≡ built_masks (prepare_check (prepare_inputs (matrix_check nrows ncols row_ptr.now col_idx.now values.now) (square_check entity_kinds.now entity_ids.now field_ids.now components.now offsets.now nrows ncols) nrows len words.now) (prepare_room nrows ncols (length col_idx.now) (length row_word_ptr.old) (length row_word_indices.old) (length row_masks.old) (length column_word_ptr.old) (length column_word_indices.old) (length column_masks.old) (length starts.old) (length order.old) (length region.old) (length frontier.old) (length scratch.old) (length global_nodes.old) (length local_row_ptr.old) (length local_col_idx.old) (length source_ptr.old) (length source_indices.old))) ncols nrows (flip (stored row_ptr.now col_idx.now)) (length col_idx.now) column_masks.old }
-    ensures scratch_starts { starts.new ≡ zeros (prepare_check (prepare_inputs (matrix_check nrows ncols row_ptr.now col_idx.now values.now) (square_check entity_kinds.now entity_ids.now field_ids.now components.now offsets.now nrows ncols) nrows len words.now) (prepare_room nrows ncols (length col_idx.now) (length row_word_ptr.old) (length row_word_indices.old) (length row_masks.old) (length column_word_ptr.old) (length column_word_indices.old) (length column_masks.old) (length starts.old) (length order.old) (length region.old) (length frontier.old) (length scratch.old) (length global_nodes.old) (length local_row_ptr.old) (length local_col_idx.old) (length source_ptr.old) (length source_indices.old))) (ncols + 1) starts.old }
-    ensures scratch_order { order.new ≡ zeros (prepare_check (prepare_inputs (matrix_check nrows ncols row_ptr.now col_idx.now values.now) (square_check entity_kinds.now entity_ids.now field_ids.now components.now offsets.now nrows ncols) nrows len words.now) (prepare_room nrows ncols (length col_idx.now) (length row_word_ptr.old) (length row_word_indices.old) (length row_masks.old) (length column_word_ptr.old) (length column_word_indices.old) (length column_masks.old) (length starts.old) (length order.old) (length region.old) (length frontier.old) (length scratch.old) (length global_nodes.old) (length local_row_ptr.old) (length local_col_idx.old) (length source_ptr.old) (length source_indices.old))) (length col_idx.now) order.old }
-    ensures inside { region.new ≡ region_left (prepare_check (prepare_inputs (matrix_check nrows ncols row_ptr.now col_idx.now values.now) (square_check entity_kinds.now entity_ids.now field_ids.now components.now offsets.now nrows ncols) nrows len words.now) (prepare_room nrows ncols (length col_idx.now) (length row_word_ptr.old) (length row_word_indices.old) (length row_masks.old) (length column_word_ptr.old) (length column_word_indices.old) (length column_masks.old) (length starts.old) (length order.old) (length region.old) (length frontier.old) (length scratch.old) (length global_nodes.old) (length local_row_ptr.old) (length local_col_idx.old) (length source_ptr.old) (length source_indices.old))) (network_of row_ptr.now col_idx.now components.now) words.now hops region.old }
-    ensures edge { frontier.new ≡ frontier_left (prepare_check (prepare_inputs (matrix_check nrows ncols row_ptr.now col_idx.now values.now) (square_check entity_kinds.now entity_ids.now field_ids.now components.now offsets.now nrows ncols) nrows len words.now) (prepare_room nrows ncols (length col_idx.now) (length row_word_ptr.old) (length row_word_indices.old) (length row_masks.old) (length column_word_ptr.old) (length column_word_indices.old) (length column_masks.old) (length starts.old) (length order.old) (length region.old) (length frontier.old) (length scratch.old) (length global_nodes.old) (length local_row_ptr.old) (length local_col_idx.old) (length source_ptr.old) (length source_indices.old))) (network_of row_ptr.now col_idx.now components.now) words.now hops frontier.old }
-    ensures spent { scratch.new ≡ scratch_left (prepare_check (prepare_inputs (matrix_check nrows ncols row_ptr.now col_idx.now values.now) (square_check entity_kinds.now entity_ids.now field_ids.now components.now offsets.now nrows ncols) nrows len words.now) (prepare_room nrows ncols (length col_idx.now) (length row_word_ptr.old) (length row_word_indices.old) (length row_masks.old) (length column_word_ptr.old) (length column_word_indices.old) (length column_masks.old) (length starts.old) (length order.old) (length region.old) (length frontier.old) (length scratch.old) (length global_nodes.old) (length local_row_ptr.old) (length local_col_idx.old) (length source_ptr.old) (length source_indices.old))) (total_of components.now) scratch.old }
-    ensures members { global_nodes.new ≡ prepared_nodes (prepare_check (prepare_inputs (matrix_check nrows ncols row_ptr.now col_idx.now values.now) (square_check entity_kinds.now entity_ids.now field_ids.now components.now offsets.now nrows ncols) nrows len words.now) (prepare_room nrows ncols (length col_idx.now) (length row_word_ptr.old) (length row_word_indices.old) (length row_masks.old) (length column_word_ptr.old) (length column_word_indices.old) (length column_masks.old) (length starts.old) (length order.old) (length region.old) (length frontier.old) (length scratch.old) (length global_nodes.old) (length local_row_ptr.old) (length local_col_idx.old) (length source_ptr.old) (length source_indices.old))) nrows (region_of row_ptr.now col_idx.now components.now words.now hops) global_nodes.old }
-    ensures pointers { local_row_ptr.new ≡ prepared_ptr (prepare_check (prepare_inputs (matrix_check nrows ncols row_ptr.now col_idx.now values.now) (square_check entity_kinds.now entity_ids.now field_ids.now components.now offsets.now nrows ncols) nrows len words.now) (prepare_room nrows ncols (length col_idx.now) (length row_word_ptr.old) (length row_word_indices.old) (length row_masks.old) (length column_word_ptr.old) (length column_word_indices.old) (length column_masks.old) (length starts.old) (length order.old) (length region.old) (length frontier.old) (length scratch.old) (length global_nodes.old) (length local_row_ptr.old) (length local_col_idx.old) (length source_ptr.old) (length source_indices.old))) nrows (region_of row_ptr.now col_idx.now components.now words.now hops) (stored row_ptr.now col_idx.now) local_row_ptr.old }
-    ensures columns { local_col_idx.new ≡ prepared_columns (prepare_check (prepare_inputs (matrix_check nrows ncols row_ptr.now col_idx.now values.now) (square_check entity_kinds.now entity_ids.now field_ids.now components.now offsets.now nrows ncols) nrows len words.now) (prepare_room nrows ncols (length col_idx.now) (length row_word_ptr.old) (length row_word_indices.old) (length row_masks.old) (length column_word_ptr.old) (length column_word_indices.old) (length column_masks.old) (length starts.old) (length order.old) (length region.old) (length frontier.old) (length scratch.old) (length global_nodes.old) (length local_row_ptr.old) (length local_col_idx.old) (length source_ptr.old) (length source_indices.old))) nrows (region_of row_ptr.now col_idx.now components.now words.now hops) (stored row_ptr.now col_idx.now) (length col_idx.now) local_col_idx.old }
-    ensures source_pointers { source_ptr.new ≡ prepared_source_ptr (prepare_check (prepare_inputs (matrix_check nrows ncols row_ptr.now col_idx.now values.now) (square_check entity_kinds.now entity_ids.now field_ids.now components.now offsets.now nrows ncols) nrows len words.now) (prepare_room nrows ncols (length col_idx.now) (length row_word_ptr.old) (length row_word_indices.old) (length row_masks.old) (length column_word_ptr.old) (length column_word_indices.old) (length column_masks.old) (length starts.old) (length order.old) (length region.old) (length frontier.old) (length scratch.old) (length global_nodes.old) (length local_row_ptr.old) (length local_col_idx.old) (length source_ptr.old) (length source_indices.old))) (lists_of nrows (region_of row_ptr.now col_idx.now components.now words.now hops) row_ptr.now col_idx.now) (length col_idx.now) source_ptr.old }
-    ensures sources { source_indices.new ≡ prepared_sources (prepare_check (prepare_inputs (matrix_check nrows ncols row_ptr.now col_idx.now values.now) (square_check entity_kinds.now entity_ids.now field_ids.now components.now offsets.now nrows ncols) nrows len words.now) (prepare_room nrows ncols (length col_idx.now) (length row_word_ptr.old) (length row_word_indices.old) (length row_masks.old) (length column_word_ptr.old) (length column_word_indices.old) (length column_masks.old) (length starts.old) (length order.old) (length region.old) (length frontier.old) (length scratch.old) (length global_nodes.old) (length local_row_ptr.old) (length local_col_idx.old) (length source_ptr.old) (length source_indices.old))) (lists_of nrows (region_of row_ptr.now col_idx.now components.now words.now hops) row_ptr.now col_idx.now) (length col_idx.now) source_indices.old }
+    ensures value { result ≡ prepare_answer (check_prepare matrix.entry layout.entry seeds.entry row_word_ptr.old row_word_indices.old row_masks.old column_word_ptr.old column_word_indices.old column_masks.old starts.old order.old region.old frontier.old scratch.old global_nodes.old local_row_ptr.old local_col_idx.old source_ptr.old source_indices.old) (prepared matrix.entry layout.entry seeds.entry hops) }
+    ensures row_pointers { row_word_ptr.new ≡ built_ptr (check_prepare matrix.entry layout.entry seeds.entry row_word_ptr.old row_word_indices.old row_masks.old column_word_ptr.old column_word_indices.old column_masks.old starts.old order.old region.old frontier.old scratch.old global_nodes.old local_row_ptr.old local_col_idx.old source_ptr.old source_indices.old) matrix.entry.nrows matrix.entry.ncols (stores matrix.entry) row_word_ptr.old }
+    ensures row_words { row_word_indices.new ≡ built_words (check_prepare matrix.entry layout.entry seeds.entry row_word_ptr.old row_word_indices.old row_masks.old column_word_ptr.old column_word_indices.old column_masks.old starts.old order.old region.old frontier.old scratch.old global_nodes.old local_row_ptr.old local_col_idx.old source_ptr.old source_indices.old) matrix.entry.nrows matrix.entry.ncols (stores matrix.entry) (length matrix.entry.col_idx.now) row_word_indices.old }
+    ensures row_masked { row_masks.new ≡ built_masks (check_prepare matrix.entry layout.entry seeds.entry row_word_ptr.old row_word_indices.old row_masks.old column_word_ptr.old column_word_indices.old column_masks.old starts.old order.old region.old frontier.old scratch.old global_nodes.old local_row_ptr.old local_col_idx.old source_ptr.old source_indices.old) matrix.entry.nrows matrix.entry.ncols (stores matrix.entry) (length matrix.entry.col_idx.now) row_masks.old }
+    ensures column_pointers { column_word_ptr.new ≡ built_ptr (check_prepare matrix.entry layout.entry seeds.entry row_word_ptr.old row_word_indices.old row_masks.old column_word_ptr.old column_word_indices.old column_masks.old starts.old order.old region.old frontier.old scratch.old global_nodes.old local_row_ptr.old local_col_idx.old source_ptr.old source_indices.old) matrix.entry.ncols matrix.entry.nrows (flip (stores matrix.entry)) column_word_ptr.old }
+    ensures column_words { column_word_indices.new ≡ built_words (check_prepare matrix.entry layout.entry seeds.entry row_word_ptr.old row_word_indices.old row_masks.old column_word_ptr.old column_word_indices.old column_masks.old starts.old order.old region.old frontier.old scratch.old global_nodes.old local_row_ptr.old local_col_idx.old source_ptr.old source_indices.old) matrix.entry.ncols matrix.entry.nrows (flip (stores matrix.entry)) (length matrix.entry.col_idx.now) column_word_indices.old }
+    ensures column_masked { column_masks.new ≡ built_masks (check_prepare matrix.entry layout.entry seeds.entry row_word_ptr.old row_word_indices.old row_masks.old column_word_ptr.old column_word_indices.old column_masks.old starts.old order.old region.old frontier.old scratch.old global_nodes.old local_row_ptr.old local_col_idx.old source_ptr.old source_indices.old) matrix.entry.ncols matrix.entry.nrows (flip (stores matrix.entry)) (length matrix.entry.col_idx.now) column_masks.old }
+    ensures scratch_starts { starts.new ≡ zeros (check_prepare matrix.entry layout.entry seeds.entry row_word_ptr.old row_word_indices.old row_masks.old column_word_ptr.old column_word_indices.old column_masks.old starts.old order.old region.old frontier.old scratch.old global_nodes.old local_row_ptr.old local_col_idx.old source_ptr.old source_indices.old) (matrix.entry.ncols + 1) starts.old }
+    ensures scratch_order { order.new ≡ zeros (check_prepare matrix.entry layout.entry seeds.entry row_word_ptr.old row_word_indices.old row_masks.old column_word_ptr.old column_word_indices.old column_masks.old starts.old order.old region.old frontier.old scratch.old global_nodes.old local_row_ptr.old local_col_idx.old source_ptr.old source_indices.old) (length matrix.entry.col_idx.now) order.old }
+    ensures inside { region.new ≡ region_left (check_prepare matrix.entry layout.entry seeds.entry row_word_ptr.old row_word_indices.old row_masks.old column_word_ptr.old column_word_indices.old column_masks.old starts.old order.old region.old frontier.old scratch.old global_nodes.old local_row_ptr.old local_col_idx.old source_ptr.old source_indices.old) (network matrix.entry layout.entry) seeds.entry.words.now hops region.old }
+    ensures edge { frontier.new ≡ frontier_left (check_prepare matrix.entry layout.entry seeds.entry row_word_ptr.old row_word_indices.old row_masks.old column_word_ptr.old column_word_indices.old column_masks.old starts.old order.old region.old frontier.old scratch.old global_nodes.old local_row_ptr.old local_col_idx.old source_ptr.old source_indices.old) (network matrix.entry layout.entry) seeds.entry.words.now hops frontier.old }
+    ensures spent { scratch.new ≡ scratch_left (check_prepare matrix.entry layout.entry seeds.entry row_word_ptr.old row_word_indices.old row_masks.old column_word_ptr.old column_word_indices.old column_masks.old starts.old order.old region.old frontier.old scratch.old global_nodes.old local_row_ptr.old local_col_idx.old source_ptr.old source_indices.old) (total layout.entry) scratch.old }
+    ensures members { global_nodes.new ≡ prepared_nodes (check_prepare matrix.entry layout.entry seeds.entry row_word_ptr.old row_word_indices.old row_masks.old column_word_ptr.old column_word_indices.old column_masks.old starts.old order.old region.old frontier.old scratch.old global_nodes.old local_row_ptr.old local_col_idx.old source_ptr.old source_indices.old) matrix.entry.nrows (grown matrix.entry layout.entry seeds.entry hops) global_nodes.old }
+    ensures pointers { local_row_ptr.new ≡ prepared_ptr (check_prepare matrix.entry layout.entry seeds.entry row_word_ptr.old row_word_indices.old row_masks.old column_word_ptr.old column_word_indices.old column_masks.old starts.old order.old region.old frontier.old scratch.old global_nodes.old local_row_ptr.old local_col_idx.old source_ptr.old source_indices.old) matrix.entry.nrows (grown matrix.entry layout.entry seeds.entry hops) (stores matrix.entry) local_row_ptr.old }
+    ensures columns { local_col_idx.new ≡ prepared_columns (check_prepare matrix.entry layout.entry seeds.entry row_word_ptr.old row_word_indices.old row_masks.old column_word_ptr.old column_word_indices.old column_masks.old starts.old order.old region.old frontier.old scratch.old global_nodes.old local_row_ptr.old local_col_idx.old source_ptr.old source_indices.old) matrix.entry.nrows (grown matrix.entry layout.entry seeds.entry hops) (stores matrix.entry) (length matrix.entry.col_idx.now) local_col_idx.old }
+    ensures source_pointers { source_ptr.new ≡ prepared_source_ptr (check_prepare matrix.entry layout.entry seeds.entry row_word_ptr.old row_word_indices.old row_masks.old column_word_ptr.old column_word_indices.old column_masks.old starts.old order.old region.old frontier.old scratch.old global_nodes.old local_row_ptr.old local_col_idx.old source_ptr.old source_indices.old) (lists matrix.entry layout.entry seeds.entry hops) (length matrix.entry.col_idx.now) source_ptr.old }
+    ensures sources { source_indices.new ≡ prepared_sources (check_prepare matrix.entry layout.entry seeds.entry row_word_ptr.old row_word_indices.old row_masks.old column_word_ptr.old column_word_indices.old column_masks.old starts.old order.old region.old frontier.old scratch.old global_nodes.old local_row_ptr.old local_col_idx.old source_ptr.old source_indices.old) (lists matrix.entry layout.entry seeds.entry hops) (length matrix.entry.col_idx.now) source_indices.old }
 {
-    inner::check_inputs(
-        nrows,
-        ncols,
-        row_ptr,
-        col_idx,
-        values,
-        entity_kinds,
-        entity_ids,
-        field_ids,
-        components,
-        offsets,
-        len,
-        words,
-    )?;
+    inner::check_inputs(matrix, layout, seeds)?;
     inner::check_room(
-        nrows,
-        ncols,
-        col_idx.len(),
+        matrix.nrows,
+        matrix.ncols,
+        matrix.col_idx.len(),
         row_word_ptr.len(),
         row_word_indices.len(),
         row_masks.len(),
@@ -144,14 +128,24 @@ pub fn prepare_region(
         source_ptr.len(),
         source_indices.len(),
     )?;
+    let held = Matrix {
+        nrows: matrix.nrows,
+        ncols: matrix.ncols,
+        row_ptr: matrix.row_ptr,
+        col_idx: matrix.col_idx,
+    };
+    let blocks = Layout {
+        components: layout.blocks.components,
+        offsets: layout.offsets,
+    };
+    let mask = Mask {
+        len: matrix.nrows,
+        words: seeds.words,
+    };
     Ok(inner::prepare(
-        nrows,
-        ncols,
-        row_ptr,
-        col_idx,
-        components,
-        offsets,
-        words,
+        held,
+        blocks,
+        mask,
         hops,
         row_word_ptr,
         row_word_indices,
@@ -174,38 +168,20 @@ pub fn prepare_region(
 
 // The owner of each block, as `field_block_owners` finds it, for the layout of a matrix.
 pub fn validate_block_owners(
-    nrows: usize,
-    ncols: usize,
-    row_ptr: &[u32],
-    col_idx: &[u32],
-    values: &[f64],
-    entity_kinds: &[u8],
-    entity_ids: &[u64],
-    field_ids: &[u32],
-    components: &[u32],
-    offsets: &[u64],
+    matrix: Csr32Matrix,
+    layout: FieldAwareDofLayout,
     dof_owners: &[u32],
     ranks: u32,
     out: &mut [u32],
 ) -> Result<u64, Refusal>
-    ensures value { result ≡ owners_answer (block_owners_check (matrix_check nrows ncols row_ptr.now col_idx.now values.now) (square_check entity_kinds.now entity_ids.now field_ids.now components.now offsets.now nrows ncols) (owners_check entity_kinds.now entity_ids.now field_ids.now components.now offsets.now dof_owners.now ranks out.old)) components.now }
-    ensures owned { out.new ≡ owners_list (block_owners_check (matrix_check nrows ncols row_ptr.now col_idx.now values.now) (square_check entity_kinds.now entity_ids.now field_ids.now components.now offsets.now nrows ncols) (owners_check entity_kinds.now entity_ids.now field_ids.now components.now offsets.now dof_owners.now ranks out.old)) components.now dof_owners.now out.old }
+    ensures value { result ≡ owners_answer (check_block_owners matrix.entry layout.entry dof_owners.now ranks out.old) layout.entry.blocks.components.now }
+    ensures owned { out.new ≡ owners_list (check_block_owners matrix.entry layout.entry dof_owners.now ranks out.old) layout.entry.blocks.components.now dof_owners.now out.old }
 {
-    inner::check_owners(
-        nrows,
-        ncols,
-        row_ptr,
-        col_idx,
-        values,
-        entity_kinds,
-        entity_ids,
-        field_ids,
-        components,
-        offsets,
-        dof_owners,
-        ranks,
-        out.len(),
-    )?;
-    field_region::inner::write_owners(components, offsets, dof_owners, out);
-    Ok(components.len() as u64)
+    inner::check_owners(matrix, layout, dof_owners, ranks, out.len())?;
+    let blocks = Layout {
+        components: layout.blocks.components,
+        offsets: layout.offsets,
+    };
+    field_region::inner::write_owners(blocks, dof_owners, out);
+    Ok(layout.blocks.components.len() as u64)
 }

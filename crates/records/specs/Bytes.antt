@@ -1,5 +1,5 @@
 -- Numbers and lists in a record of bytes: 8 bytes a number, the lowest first.
-use Rattle.std.specs.Prelude.{List, ℕ, zero, suc, ◌+◌, ◌*◌, ◌/◌, ◌%◌, get_or}
+use Rattle.std.specs.Prelude.{List, ℕ, zero, suc, ◌+◌, ◌*◌, ◌/◌, ◌%◌, ◌≡◌, min, get_or}
 use Rattle.base.specs.Lists.{list_from}
 
 abbrev pub half_found_at : List ℕ → ℕ → ℕ
@@ -11,6 +11,10 @@ number_at bytes at = half_found_at bytes at + 4294967296 * half_found_at bytes (
 -- n elements from a place on, each as `read` makes it of a number
 abbrev pub list_found_at : {A : Type 0} → (ℕ → A) → ℕ → List ℕ → ℕ → List A
 list_found_at read n bytes at = list_from (λ k. read (number_at bytes (at + 8 * k))) n 0
+
+-- a list's room for n elements, and its count: the room stands at `at`, the list's length at `length_at`
+abbrev pub ListAt : {A : Type 0} → (ℕ → A) → ℕ → List ℕ → ℕ → ℕ → List A → ℕ → Type 0
+ListAt read n bytes length_at at room count = (room ≡ list_found_at read n bytes at) × (count ≡ min (number_at bytes length_at) n)
 
 -- a number without its k lowest bytes
 unfoldable pub shifted : ℕ → ℕ → ℕ

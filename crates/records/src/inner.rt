@@ -1,8 +1,7 @@
-// Numbers and lists in a record of bytes, little-endian, 8 bytes each.
-ghost use Rattle.std.specs.Prelude.{◌≡◌, ℕ, ◌+◌, ◌*◌, ◌%◌, ◌<◌, ◌≤◌, from_bits, to_bits, map, min, length, get_or, [], ◌∷◌};
+// Numbers and lists in a record of bytes, little-endian, 8 bytes each. Where each stands is the record's format (oracle/README.md): a place is handed in.
+ghost use Rattle.std.specs.Prelude.{◌≡◌, ℕ, ◌+◌, ◌*◌, ◌%◌, ◌<◌, ◌≤◌, from_bits, to_bits, map, min, length, take, get_or, [], ◌∷◌};
 ghost use Rattle.std.specs.Float.{binary64};
 ghost use Rattle.base.specs.Lists.{placed};
-ghost use Rattle.base.specs.Sets.{one_if};
 ghost use Rattle.records.specs.Bytes.{half_found_at, number_at, list_found_at, bytes_of};
 
 use std::num;
@@ -129,17 +128,52 @@ pub fn put_number(out: &mut [u8], at: usize, value: u64)
     out[at..at + 8].copy_from_slice(&value.to_le_bytes());
 }
 
-pub fn digit(yes: bool) -> u64
-    ensures { result ≡ one_if yes }
-{
-    if yes { 1 } else { 0 }
-}
-
 pub fn put_list<T: Element>(out: &mut [u8], at: usize, list: &[T])
     requires { at + 8 * length list.now ≤ length out.old }
     ensures { out.new ≡ placed at (bytes_of (map T.written list.now) (8 * length list.now)) out.old }
 {
     for (k, x) in list.iter().enumerate() {
         put_number(out, at + 8 * k, x.number());
+    }
+}
+
+// A list of a call: the front of the room that its record has for it. Fixed memory is a rule of the project, so the room is an array.
+#[derive(Drop)]
+pub struct List<T, const N: usize> {
+    pub room: [T; N],
+    pub count: usize,
+    ghost within: { count ≤ N },
+}
+
+impl<T: Element, const N: usize> List<T, N> {
+    // The list whose length stands at `count` and whose elements stand at `at`.
+    pub fn read(call: &[u8], count: usize, at: usize) -> List<T, N>
+        requires fits { N < 1048576 }
+        requires stand { (count + 8 ≤ length call.now) × (at + 8 * N ≤ length call.now) }
+        ensures room { result.room ≡ list_found_at T.read N call.now at }
+        ensures count { result.count ≡ min (number_at call.now count) N }
+    {
+        let mut room = [T::of(0); N];
+        read_list(call, at, &mut room);
+        List {
+            room,
+            count: count_at(call, count, N),
+        }
+    }
+
+    pub fn as_slice(&self) -> &[T]
+        ensures items { result.now ≡ take self.now.count self.now.room }
+        ensures upper_bound { length result.now ≤ N }
+    {
+        &self.room[..self.count]
+    }
+
+    pub fn as_mut_slice(&mut self) -> &mut [T]
+        ensures items { result.now ≡ take self.old.count self.old.room }
+        ensures upper_bound { length result.now ≤ N }
+    {
+        let count = self.count;
+        let room = &mut self.room;
+        &mut room[..count]
     }
 }

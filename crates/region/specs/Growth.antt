@@ -4,7 +4,7 @@ use Rattle.std.specs.Prelude.{Result}
 use Rattle.base.specs.Checks.{Check, answer}
 use Rattle.base.specs.declared.Refusal.{Refusal}
 use Rattle.base.specs.declared.Refusal.TheVariants.{NotSquare}
-use Rattle.base.specs.Checks.{must, ◌then◌, after}
+use Rattle.base.specs.Checks.{must, ◌then◌}
 use Rattle.base.specs.Sets.{count_below}
 use Rattle.mask.specs.Mask.{in_mask, length_check}
 use Rattle.graph.specs.Network.{Network, in_region, visited, hops_made}

@@ -1,14 +1,22 @@
 // Regions of a topology's graph, region.rs of the Rust: growth hop by hop over rows and columns.
 #![tactic(auto)]
 
-ghost use Rattle.std.specs.Prelude.{◌≡◌};
-ghost use Rattle.side.specs.Side.{side_holds};
-ghost use Rattle.dual_topology.specs.Check.{topology_check};
-ghost use Rattle.graph.specs.Network.{plain_network};
+ghost use Rattle.std.specs.Prelude.{◌≡◌, IfOk, ◌≤◌, length, replicate};
+ghost use Rattle.base.specs.Lists.{over};
+ghost use Rattle.mask.specs.Mask.{words_needed};
+ghost use Rattle.side.specs.Views.{pairs};
+ghost use Rattle.graph.specs.Network.{plain_network, region_words, frontier_words};
 ghost use Rattle.growth.specs.Lent.{region_left, frontier_left, scratch_left};
-ghost use Rattle.region.specs.Growth.{grow_check, grow_answer, words_visited, nodes_added};
+ghost use Rattle.region.specs.Growth.{stats_of_growth, grow_answer, words_visited, nodes_added};
+ghost use Rattle.region.specs.Views.{check_grow, plain, Growable};
 
 use base::Refusal;
+use dual_topology::AbtmDualTopology;
+use dual_topology::inner::Topology;
+use growth::inner::Graph;
+use mask::DofMask;
+use mask::inner::Mask;
+use side::inner::Side;
 
 #[derive(Clone, Copy)]
 pub struct AbtmRegionGrowthStats {
@@ -43,116 +51,104 @@ impl AbtmRegionGrowthStats {
 }
 
 // The topology, its shape, the mask, the lengths of the lists.
+#[tactic(auto, using(base::proofs::Checks::checks), unfolding(crate::specs::Growth::grow_check))]
 fn check_growth(
-    nrows: usize,
-    ncols: usize,
-    row_word_ptr: &[u32],
-    row_word_indices: &[u32],
-    row_masks: &[u64],
-    structural_nnz: usize,
-    column_nrows: usize,
-    column_ncols: usize,
-    column_word_ptr: &[u32],
-    column_word_indices: &[u32],
-    column_masks: &[u64],
-    column_structural_nnz: usize,
-    len: usize,
-    words: &[u64],
+    topology: AbtmDualTopology,
+    mask: DofMask,
     region: &[u64],
     frontier: &[u64],
     scratch: &[u64],
 ) -> Result<(), Refusal>
-    ensures { result ≡ grow_check (topology_check nrows ncols row_word_ptr.now row_word_indices.now row_masks.now structural_nnz column_nrows column_ncols column_word_ptr.now column_word_indices.now column_masks.now column_structural_nnz) nrows ncols len words.now region.now frontier.now scratch.now }
+    ensures value { result ≡ check_grow topology.entry mask.entry region.now frontier.now scratch.now }
+    ensures accepted { IfOk result (λ t. Growable topology.entry mask.entry region.now frontier.now scratch.now) }
 {
-    dual_topology::validate(
-        nrows,
-        ncols,
-        row_word_ptr,
-        row_word_indices,
-        row_masks,
-        structural_nnz,
-        column_nrows,
-        column_ncols,
-        column_word_ptr,
-        column_word_indices,
-        column_masks,
-        column_structural_nnz,
-    )?;
-    if nrows != ncols {
+    topology.validate()?;
+    let n = topology.rows.nrows;
+    if n != topology.rows.ncols {
         return Err(Refusal::NotSquare);
     }
-    mask::inner::check_length(nrows, len, words)?;
-    growth::inner::check_room(nrows, region.len(), frontier.len(), scratch.len())
+    mask::inner::check_length(n, mask.len, mask.words)?;
+    growth::inner::check_room(n, region.len(), frontier.len(), scratch.len())
 }
 
-// The nodes within `hops` links of the mask's nodes, and those at exactly so many. The lists take a mask each; `scratch` is left zero.
-pub fn grow_undirected_region(
-    nrows: usize,
-    ncols: usize,
-    row_word_ptr: &[u32],
-    row_word_indices: &[u32],
-    row_masks: &[u64],
-    structural_nnz: usize,
-    column_nrows: usize,
-    column_ncols: usize,
-    column_word_ptr: &[u32],
-    column_word_indices: &[u32],
-    column_masks: &[u64],
-    column_structural_nnz: usize,
-    len: usize,
-    words: &[u64],
+// A growth and its statistics, on lists that reach their needed lengths; `scratch` is left zero.
+fn grow(
+    graph: Graph,
+    seeds: Mask,
     hops: u64,
     region: &mut [u64],
     frontier: &mut [u64],
     scratch: &mut [u64],
-) -> Result<AbtmRegionGrowthStats, Refusal>
-    ensures value { result ≡ grow_answer (grow_check (topology_check nrows ncols row_word_ptr.now row_word_indices.now row_masks.now structural_nnz column_nrows column_ncols column_word_ptr.now column_word_indices.now column_masks.now column_structural_nnz) nrows ncols len words.now region.old frontier.old scratch.old) (plain_network nrows (side_holds row_word_ptr.now row_word_indices.now row_masks.now)) words.now hops }
-    ensures inside { region.new ≡ region_left (grow_check (topology_check nrows ncols row_word_ptr.now row_word_indices.now row_masks.now structural_nnz column_nrows column_ncols column_word_ptr.now column_word_indices.now column_masks.now column_structural_nnz) nrows ncols len words.now region.old frontier.old scratch.old) (plain_network nrows (side_holds row_word_ptr.now row_word_indices.now row_masks.now)) words.now hops region.old }
-    ensures edge { frontier.new ≡ frontier_left (grow_check (topology_check nrows ncols row_word_ptr.now row_word_indices.now row_masks.now structural_nnz column_nrows column_ncols column_word_ptr.now column_word_indices.now column_masks.now column_structural_nnz) nrows ncols len words.now region.old frontier.old scratch.old) (plain_network nrows (side_holds row_word_ptr.now row_word_indices.now row_masks.now)) words.now hops frontier.old }
-    ensures spent { scratch.new ≡ scratch_left (grow_check (topology_check nrows ncols row_word_ptr.now row_word_indices.now row_masks.now structural_nnz column_nrows column_ncols column_word_ptr.now column_word_indices.now column_masks.now column_structural_nnz) nrows ncols len words.now region.old frontier.old scratch.old) nrows scratch.old }
+) -> AbtmRegionGrowthStats
+    requires { (seeds.len ≡ graph.n) × (words_needed graph.n ≤ length region.old) × (words_needed graph.n ≤ length frontier.old) × (words_needed graph.n ≤ length scratch.old) }
+    ensures value { result ≡ stats_of_growth (plain_network graph.entry.n (pairs graph.entry.topology.rows)) seeds.entry.words.now hops }
+    ensures inside { region.new ≡ over (region_words (plain_network graph.entry.n (pairs graph.entry.topology.rows)) seeds.entry.words.now hops) region.old }
+    ensures edge { frontier.new ≡ over (frontier_words (plain_network graph.entry.n (pairs graph.entry.topology.rows)) seeds.entry.words.now hops) frontier.old }
+    ensures spent { scratch.new ≡ over (replicate (words_needed graph.entry.n) 0) scratch.old }
 {
-    check_growth(
-        nrows,
-        ncols,
-        row_word_ptr,
-        row_word_indices,
-        row_masks,
-        structural_nnz,
-        column_nrows,
-        column_ncols,
-        column_word_ptr,
-        column_word_indices,
-        column_masks,
-        column_structural_nnz,
-        len,
-        words,
-        region,
-        frontier,
-        scratch,
-    )?;
-    let need = mask::inner::words_for(nrows);
-    let grown = growth::inner::grow(
-        nrows,
-        row_word_ptr,
-        row_word_indices,
-        row_masks,
-        column_word_ptr,
-        column_word_indices,
-        column_masks,
-        words,
+    let need = mask::inner::words_for(graph.n);
+    let grown = graph.grow(
+        seeds,
         hops,
         &mut region[..need],
         &mut frontier[..need],
         &mut scratch[..need],
     );
-    Ok(AbtmRegionGrowthStats {
+    let inside = Mask {
+        len: graph.n,
+        words: &region[..need],
+    };
+    AbtmRegionGrowthStats {
         hops_requested: hops,
         hops_completed: grown.hops,
-        seed_nodes: mask::inner::count(nrows, words),
-        region_nodes: mask::inner::count(nrows, &region[..need]),
+        seed_nodes: seeds.count(),
+        region_nodes: inside.count(),
         frontier_nodes_visited: grown.visits.nodes,
         row_words_visited: grown.visits.row_words,
         column_words_visited: grown.visits.column_words,
         candidate_neighbor_bits: grown.visits.candidate_bits,
-    })
+    }
+}
+
+// The nodes within `hops` links of the mask's nodes, and those at exactly so many. The lists take a mask each; `scratch` is left zero. They are
+// written, each with an equation of its own, and so handed in one by one.
+pub fn grow_undirected_region(
+    topology: AbtmDualTopology,
+    mask: DofMask,
+    hops: u64,
+    region: &mut [u64],
+    frontier: &mut [u64],
+    scratch: &mut [u64],
+) -> Result<AbtmRegionGrowthStats, Refusal>
+    ensures value { result ≡ grow_answer (check_grow topology.entry mask.entry region.old frontier.old scratch.old) (plain topology.entry) mask.entry.words.now hops }
+    ensures inside { region.new ≡ region_left (check_grow topology.entry mask.entry region.old frontier.old scratch.old) (plain topology.entry) mask.entry.words.now hops region.old }
+    ensures edge { frontier.new ≡ frontier_left (check_grow topology.entry mask.entry region.old frontier.old scratch.old) (plain topology.entry) mask.entry.words.now hops frontier.old }
+    ensures spent { scratch.new ≡ scratch_left (check_grow topology.entry mask.entry region.old frontier.old scratch.old) topology.entry.rows.nrows scratch.old }
+{
+    check_growth(topology, mask, region, frontier, scratch)?;
+    let n = topology.rows.nrows;
+    let graph = Graph {
+        n,
+        topology: Topology {
+            rows: Side {
+                nrows: n,
+                ncols: n,
+                row_word_ptr: topology.rows.row_word_ptr,
+                word_indices: topology.rows.word_indices,
+                masks: topology.rows.masks,
+            },
+            columns: Side {
+                nrows: n,
+                ncols: n,
+                row_word_ptr: topology.columns.row_word_ptr,
+                word_indices: topology.columns.word_indices,
+                masks: topology.columns.masks,
+            },
+        },
+    };
+    let seeds = Mask {
+        len: n,
+        words: mask.words,
+    };
+    Ok(grow(graph, seeds, hops, region, frontier, scratch))
 }

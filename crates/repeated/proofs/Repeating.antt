@@ -1,7 +1,7 @@
 -- A growth after a growth: what the first left is written again, and one answer is told. Assumes nothing.
 use mathlib.Core.Path.{◌≡◌, refl, sym, ap, ◌∙◌}
 use Rattle.std.specs.Prelude.{Ok, Err}
-use Rattle.base.specs.Checks.{Check, answer}
+use Rattle.base.specs.Checks.{Check}
 use mathlib.Core.Bool.{false}
 use mathlib.Core.List.{List, ◌++◌}
 use Prim.Native.Nat.{ℕ, ◌≤◌}

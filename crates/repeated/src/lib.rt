@@ -1,27 +1,43 @@
 // For the benchmark only: a growth, a closing, a pattern, a plan or a gather made many times after one check of its inputs, so that its own time
 // can be told from the time of the checks. It leaves and answers what one call does. repeated_c exports them; no part of a station's library.
+// Its exported functions take each list for itself and answer a flat record: both are C's. Lists that are written are no struct: a clause could not
+// name what each is left with.
 #![tactic(auto)]
 
-ghost use Rattle.std.specs.Prelude.{◌≡◌, false, ◌≤◌, length};
-ghost use Rattle.base.specs.Checks.{side_limit};
-ghost use Rattle.mask.specs.Mask.{words_needed, mask_words, IsMask};
-ghost use Rattle.dof_layout.specs.Layout.{total_of, offsets_of};
+ghost use Rattle.std.specs.Prelude.{◌≡◌, false, ℕ, ◌^◌, ◌<◌, length, get_or};
+ghost use Rattle.mask.specs.Mask.{words_needed, mask_words};
+ghost use Rattle.dof_layout.specs.Layout.{total_of};
 ghost use Rattle.dof_layout.specs.Answers.{square_check};
+ghost use Rattle.dof_layout.specs.Views.{total};
 ghost use Rattle.side.specs.Side.{side_holds};
-ghost use Rattle.dual_topology.specs.Check.{topology_check, IsTopology};
+ghost use Rattle.side.specs.Views.{pairs};
+ghost use Rattle.dual_topology.specs.Check.{topology_check};
 ghost use Rattle.graph.specs.Network.{plain_network, field_network, region_words, frontier_words};
 ghost use Rattle.growth.specs.Visits.{grown_by};
 ghost use Rattle.growth.specs.Lent.{region_left, frontier_left, scratch_left};
 ghost use Rattle.region.specs.Growth.{grow_check, grow_answer};
+ghost use Rattle.region.specs.Views.{check_grow, plain};
 ghost use Rattle.field_region.specs.Growth.{field_grow_check, field_grow_answer, blocks_grown_by};
 ghost use Rattle.field_region.specs.Closure.{close_check, close_answer, closed_words, close_words};
+ghost use Rattle.field_region.specs.Views.{fields, blocked, check_closing, check_field_grow};
 ghost use Rattle.repeated.specs.Repeated.{hops_answer, field_hops_answer, count_answer, value_answer, refused_answer};
+ghost use Rattle.repeated.specs.Views.{Words};
 
 use base::Refusal;
+use dof_layout::FieldAwareDofLayout;
+use dof_layout::inner::Layout;
+use dual_topology::AbtmDualTopology;
+use dual_topology::inner::Topology;
 use field_region::BlocksGrown;
+use field_region::inner::FieldGraph;
 use growth::Grown;
+use growth::inner::Graph;
+use mask::DofMask;
+use mask::inner::Mask;
+use side::inner::Side;
 
 pub mod local;
+mod views;
 
 // The value: the hops completed, or the count of nodes, of pairs or of sources.
 #[repr(C)]
@@ -34,85 +50,117 @@ pub struct Answer {
     pub value: u64,
 }
 
-fn refused(r: Refusal) -> Answer
-    ensures { result ≡ refused_answer r }
-{
-    Answer {
-        number: r.number(),
-        present: false,
-        expected: r.expected(),
-        actual: r.actual(),
-        value: 0,
+impl From<Refusal> for Answer {
+    ghost from_gives = { λ r a. a ≡ refused_answer r };
+
+    fn from(r: Refusal) -> Self {
+        Self {
+            number: r.number(),
+            present: false,
+            expected: r.expected(),
+            actual: r.actual(),
+            value: 0,
+        }
     }
 }
 
-fn answered(value: u64) -> Answer
-    ensures { result ≡ value_answer value }
-{
-    Answer {
-        number: 0,
-        present: true,
-        expected: 0,
-        actual: 0,
-        value,
+impl From<u64> for Answer {
+    ghost from_gives = { λ n a. a ≡ value_answer n };
+
+    fn from(value: u64) -> Self {
+        Self {
+            number: 0,
+            present: true,
+            expected: 0,
+            actual: 0,
+            value,
+        }
     }
 }
 
 // One growth, and `times` more.
 fn repeat(
-    n: usize,
-    row_word_ptr: &[u32],
-    row_word_indices: &[u32],
-    row_masks: &[u64],
-    column_word_ptr: &[u32],
-    column_word_indices: &[u32],
-    column_masks: &[u64],
-    seeds: &[u64],
+    graph: Graph,
+    seeds: Mask,
     hops: u64,
     times: u64,
     region: &mut [u64],
     frontier: &mut [u64],
     scratch: &mut [u64],
 ) -> Grown
-    requires { IsTopology n n row_word_ptr.now row_word_indices.now row_masks.now column_word_ptr.now column_word_indices.now column_masks.now × IsMask n seeds.now × (length region.old ≡ words_needed n) × (length frontier.old ≡ words_needed n) × (length scratch.old ≡ words_needed n) }
-    ensures value { result ≡ grown_by (plain_network n (side_holds row_word_ptr.now row_word_indices.now row_masks.now)) seeds.now hops }
-    ensures region_after { region.new ≡ region_words (plain_network n (side_holds row_word_ptr.now row_word_indices.now row_masks.now)) seeds.now hops }
-    ensures frontier_after { frontier.new ≡ frontier_words (plain_network n (side_holds row_word_ptr.now row_word_indices.now row_masks.now)) seeds.now hops }
-    ensures scratch_after { scratch.new ≡ mask_words n (λ i. false) }
+    requires { (seeds.len ≡ graph.n) × (length region.old ≡ words_needed graph.n) × (length frontier.old ≡ words_needed graph.n) × (length scratch.old ≡ words_needed graph.n) }
+    ensures value { result ≡ grown_by (plain_network graph.entry.n (pairs graph.entry.topology.rows)) seeds.entry.words.now hops }
+    ensures region_after { region.new ≡ region_words (plain_network graph.entry.n (pairs graph.entry.topology.rows)) seeds.entry.words.now hops }
+    ensures frontier_after { frontier.new ≡ frontier_words (plain_network graph.entry.n (pairs graph.entry.topology.rows)) seeds.entry.words.now hops }
+    ensures scratch_after { scratch.new ≡ mask_words graph.entry.n (λ i. false) }
 {
-    let mut grown = growth::inner::grow(
-        n,
-        row_word_ptr,
-        row_word_indices,
-        row_masks,
-        column_word_ptr,
-        column_word_indices,
-        column_masks,
-        seeds,
-        hops,
-        region,
-        frontier,
-        scratch,
-    );
+    let mut grown = graph.grow(seeds, hops, region, frontier, scratch);
     for _ in 0..times {
-        grown = growth::inner::grow(
-            n,
-            row_word_ptr,
-            row_word_indices,
-            row_masks,
-            column_word_ptr,
-            column_word_indices,
-            column_masks,
-            seeds,
-            hops,
-            region,
-            frontier,
-            scratch,
-        );
+        grown = graph.grow(seeds, hops, region, frontier, scratch);
     }
     grown
 }
 
+// A growth as lent, and `times` more with what its checks gave.
+#[tactic(auto, unfolding(crate::specs::Repeated::hops_answer))]
+fn repeated_growth<'a>(
+    topology: AbtmDualTopology<'a>,
+    mask: DofMask<'a>,
+    hops: u64,
+    times: u64,
+    region: &mut [u64],
+    frontier: &mut [u64],
+    scratch: &mut [u64],
+) -> Answer
+    requires { Words topology mask }
+    ensures value { result ≡ hops_answer (grow_answer (check_grow topology.entry mask.entry region.old frontier.old scratch.old) (plain topology.entry) mask.entry.words.now hops) }
+    ensures inside { region.new ≡ region_left (check_grow topology.entry mask.entry region.old frontier.old scratch.old) (plain topology.entry) mask.entry.words.now hops region.old }
+    ensures edge { frontier.new ≡ frontier_left (check_grow topology.entry mask.entry region.old frontier.old scratch.old) (plain topology.entry) mask.entry.words.now hops frontier.old }
+    ensures spent { scratch.new ≡ scratch_left (check_grow topology.entry mask.entry region.old frontier.old scratch.old) topology.entry.rows.nrows scratch.old }
+{
+    match region::grow_undirected_region(topology, mask, hops, region, frontier, scratch) {
+        Err(r) => r.into(),
+        Ok(s) => {
+            let n = topology.rows.nrows;
+            let need = mask::inner::words_for(n);
+            let rows = Side {
+                nrows: n,
+                ncols: n,
+                row_word_ptr: topology.rows.row_word_ptr,
+                word_indices: topology.rows.word_indices,
+                masks: topology.rows.masks,
+            };
+            let columns = Side {
+                nrows: n,
+                ncols: n,
+                row_word_ptr: topology.columns.row_word_ptr,
+                word_indices: topology.columns.word_indices,
+                masks: topology.columns.masks,
+            };
+            let accepted = Topology { rows, columns };
+            let graph = Graph {
+                n,
+                topology: accepted,
+            };
+            let seeds = Mask {
+                len: n,
+                words: mask.words,
+            };
+            let grown = repeat(
+                graph,
+                seeds,
+                hops,
+                times,
+                &mut region[..need],
+                &mut frontier[..need],
+                &mut scratch[..need],
+            );
+            grown.hops.into()
+        }
+    }
+}
+
+#[tactic(auto, unfolding(crate::specs::Repeated::hops_answer))]
 pub fn hybit_repeated_growth(
     nrows: usize,
     ncols: usize,
@@ -139,107 +187,123 @@ pub fn hybit_repeated_growth(
     ensures edge { frontier.new ≡ frontier_left (grow_check (topology_check nrows ncols row_word_ptr.now row_word_indices.now row_masks.now structural_nnz column_nrows column_ncols column_word_ptr.now column_word_indices.now column_masks.now column_structural_nnz) nrows ncols len words.now region.old frontier.old scratch.old) (plain_network nrows (side_holds row_word_ptr.now row_word_indices.now row_masks.now)) words.now hops frontier.old }
     ensures spent { scratch.new ≡ scratch_left (grow_check (topology_check nrows ncols row_word_ptr.now row_word_indices.now row_masks.now structural_nnz column_nrows column_ncols column_word_ptr.now column_word_indices.now column_masks.now column_structural_nnz) nrows ncols len words.now region.old frontier.old scratch.old) nrows scratch.old }
 {
-    match region::grow_undirected_region(
-        nrows,
-        ncols,
-        row_word_ptr,
-        row_word_indices,
-        row_masks,
-        structural_nnz,
-        column_nrows,
-        column_ncols,
-        column_word_ptr,
-        column_word_indices,
-        column_masks,
-        column_structural_nnz,
-        len,
-        words,
+    repeated_growth(
+        views::topology(
+            nrows,
+            ncols,
+            row_word_ptr,
+            row_word_indices,
+            row_masks,
+            structural_nnz,
+            column_nrows,
+            column_ncols,
+            column_word_ptr,
+            column_word_indices,
+            column_masks,
+            column_structural_nnz,
+        ),
+        views::mask(len, words),
         hops,
+        times,
         region,
         frontier,
         scratch,
-    ) {
-        Err(r) => refused(r),
-        Ok(s) => {
-            let need = mask::inner::words_for(nrows);
-            let grown = repeat(
-                nrows,
-                row_word_ptr,
-                row_word_indices,
-                row_masks,
-                column_word_ptr,
-                column_word_indices,
-                column_masks,
-                words,
-                hops,
-                times,
-                &mut region[..need],
-                &mut frontier[..need],
-                &mut scratch[..need],
-            );
-            answered(grown.hops)
-        }
-    }
+    )
 }
 
 // One field growth, and `times` more.
 fn repeat_blocks(
-    row_word_ptr: &[u32],
-    row_word_indices: &[u32],
-    row_masks: &[u64],
-    column_word_ptr: &[u32],
-    column_word_indices: &[u32],
-    column_masks: &[u64],
-    components: &[u32],
-    offsets: &[u64],
-    seeds: &[u64],
+    graph: FieldGraph,
+    seeds: Mask,
     hops: u64,
     times: u64,
     region: &mut [u64],
     frontier: &mut [u64],
     scratch: &mut [u64],
 ) -> BlocksGrown
-    requires { IsTopology (total_of components.now) (total_of components.now) row_word_ptr.now row_word_indices.now row_masks.now column_word_ptr.now column_word_indices.now column_masks.now × (offsets.now ≡ offsets_of components.now) × IsMask (total_of components.now) seeds.now × (length region.old ≡ words_needed (total_of components.now)) × (length frontier.old ≡ words_needed (total_of components.now)) × (length scratch.old ≡ words_needed (total_of components.now)) }
-    ensures value { result ≡ blocks_grown_by (field_network components.now (side_holds row_word_ptr.now row_word_indices.now row_masks.now)) seeds.now hops }
-    ensures region_after { region.new ≡ region_words (field_network components.now (side_holds row_word_ptr.now row_word_indices.now row_masks.now)) seeds.now hops }
-    ensures frontier_after { frontier.new ≡ frontier_words (field_network components.now (side_holds row_word_ptr.now row_word_indices.now row_masks.now)) seeds.now hops }
-    ensures scratch_after { scratch.new ≡ mask_words (total_of components.now) (λ i. false) }
+    requires { (seeds.len ≡ graph.graph.n) × (length region.old ≡ words_needed graph.graph.n) × (length frontier.old ≡ words_needed graph.graph.n) × (length scratch.old ≡ words_needed graph.graph.n) }
+    ensures value { result ≡ blocks_grown_by (fields graph.entry) seeds.entry.words.now hops }
+    ensures region_after { region.new ≡ region_words (fields graph.entry) seeds.entry.words.now hops }
+    ensures frontier_after { frontier.new ≡ frontier_words (fields graph.entry) seeds.entry.words.now hops }
+    ensures scratch_after { scratch.new ≡ mask_words (total_of graph.entry.layout.components.now) (λ i. false) }
 {
-    let mut grown = field_region::inner::grow_blocks(
-        row_word_ptr,
-        row_word_indices,
-        row_masks,
-        column_word_ptr,
-        column_word_indices,
-        column_masks,
-        components,
-        offsets,
-        seeds,
-        hops,
-        region,
-        frontier,
-        scratch,
-    );
+    let mut grown = graph.grow_blocks(seeds, hops, region, frontier, scratch);
     for _ in 0..times {
-        grown = field_region::inner::grow_blocks(
-            row_word_ptr,
-            row_word_indices,
-            row_masks,
-            column_word_ptr,
-            column_word_indices,
-            column_masks,
-            components,
-            offsets,
-            seeds,
-            hops,
-            region,
-            frontier,
-            scratch,
-        );
+        grown = graph.grow_blocks(seeds, hops, region, frontier, scratch);
     }
     grown
 }
 
+// The same of a field growth.
+#[tactic(auto, unfolding(crate::specs::Repeated::field_hops_answer))]
+fn repeated_field_growth<'a>(
+    topology: AbtmDualTopology<'a>,
+    layout: FieldAwareDofLayout<'a>,
+    mask: DofMask<'a>,
+    hops: u64,
+    times: u64,
+    region: &mut [u64],
+    frontier: &mut [u64],
+    scratch: &mut [u64],
+) -> Answer
+    requires { Words topology mask }
+    ensures value { result ≡ field_hops_answer (field_grow_answer (check_field_grow topology.entry layout.entry mask.entry region.old frontier.old scratch.old) (blocked topology.entry layout.entry) mask.entry.words.now hops) }
+    ensures inside { region.new ≡ region_left (check_field_grow topology.entry layout.entry mask.entry region.old frontier.old scratch.old) (blocked topology.entry layout.entry) mask.entry.words.now hops region.old }
+    ensures edge { frontier.new ≡ frontier_left (check_field_grow topology.entry layout.entry mask.entry region.old frontier.old scratch.old) (blocked topology.entry layout.entry) mask.entry.words.now hops frontier.old }
+    ensures spent { scratch.new ≡ scratch_left (check_field_grow topology.entry layout.entry mask.entry region.old frontier.old scratch.old) (total layout.entry) scratch.old }
+{
+    match field_region::grow_field_aware_region(
+        topology, layout, mask, hops, region, frontier, scratch,
+    ) {
+        Err(r) => r.into(),
+        Ok(s) => {
+            let n = topology.rows.nrows;
+            let need = mask::inner::words_for(n);
+            let rows = Side {
+                nrows: n,
+                ncols: n,
+                row_word_ptr: topology.rows.row_word_ptr,
+                word_indices: topology.rows.word_indices,
+                masks: topology.rows.masks,
+            };
+            let columns = Side {
+                nrows: n,
+                ncols: n,
+                row_word_ptr: topology.columns.row_word_ptr,
+                word_indices: topology.columns.word_indices,
+                masks: topology.columns.masks,
+            };
+            let accepted = Topology { rows, columns };
+            let graph = Graph {
+                n,
+                topology: accepted,
+            };
+            let blocks = Layout {
+                components: layout.blocks.components,
+                offsets: layout.offsets,
+            };
+            let seeds = Mask {
+                len: n,
+                words: mask.words,
+            };
+            let grown = repeat_blocks(
+                FieldGraph {
+                    graph,
+                    layout: blocks,
+                },
+                seeds,
+                hops,
+                times,
+                &mut region[..need],
+                &mut frontier[..need],
+                &mut scratch[..need],
+            );
+            grown.grown.hops.into()
+        }
+    }
+}
+
+#[tactic(auto, unfolding(crate::specs::Repeated::field_hops_answer))]
 pub fn hybit_repeated_field_growth(
     nrows: usize,
     ncols: usize,
@@ -271,62 +335,68 @@ pub fn hybit_repeated_field_growth(
     ensures edge { frontier.new ≡ frontier_left (field_grow_check (topology_check nrows ncols row_word_ptr.now row_word_indices.now row_masks.now structural_nnz column_nrows column_ncols column_word_ptr.now column_word_indices.now column_masks.now column_structural_nnz) (square_check entity_kinds.now entity_ids.now field_ids.now components.now offsets.now nrows ncols) (total_of components.now) len words.now region.old frontier.old scratch.old) (field_network components.now (side_holds row_word_ptr.now row_word_indices.now row_masks.now)) words.now hops frontier.old }
     ensures spent { scratch.new ≡ scratch_left (field_grow_check (topology_check nrows ncols row_word_ptr.now row_word_indices.now row_masks.now structural_nnz column_nrows column_ncols column_word_ptr.now column_word_indices.now column_masks.now column_structural_nnz) (square_check entity_kinds.now entity_ids.now field_ids.now components.now offsets.now nrows ncols) (total_of components.now) len words.now region.old frontier.old scratch.old) (total_of components.now) scratch.old }
 {
-    match field_region::grow_field_aware_region(
-        nrows,
-        ncols,
-        row_word_ptr,
-        row_word_indices,
-        row_masks,
-        structural_nnz,
-        column_nrows,
-        column_ncols,
-        column_word_ptr,
-        column_word_indices,
-        column_masks,
-        column_structural_nnz,
-        entity_kinds,
-        entity_ids,
-        field_ids,
-        components,
-        offsets,
-        len,
-        words,
+    repeated_field_growth(
+        views::topology(
+            nrows,
+            ncols,
+            row_word_ptr,
+            row_word_indices,
+            row_masks,
+            structural_nnz,
+            column_nrows,
+            column_ncols,
+            column_word_ptr,
+            column_word_indices,
+            column_masks,
+            column_structural_nnz,
+        ),
+        views::layout(entity_kinds, entity_ids, field_ids, components, offsets),
+        views::mask(len, words),
         hops,
+        times,
         region,
         frontier,
         scratch,
-    ) {
-        Err(r) => refused(r),
-        Ok(s) => {
-            let need = mask::inner::words_for(nrows);
-            let grown = repeat_blocks(
-                row_word_ptr,
-                row_word_indices,
-                row_masks,
-                column_word_ptr,
-                column_word_indices,
-                column_masks,
-                components,
-                offsets,
-                words,
-                hops,
-                times,
-                &mut region[..need],
-                &mut frontier[..need],
-                &mut scratch[..need],
-            );
-            answered(grown.grown.hops)
-        }
-    }
+    )
 }
 
 // The closing `times` more, on a list that holds it: it stays as it is.
-fn repeat_closing(components: &[u32], offsets: &[u64], words: &[u64], times: u64, out: &mut [u64])
-    requires { (offsets.now ≡ offsets_of components.now) × (total_of components.now ≤ side_limit) × IsMask (total_of components.now) words.now × (out.old ≡ closed_words components.now words.now) }
+fn repeat_closing(layout: Layout, mask: Mask, times: u64, out: &mut [u64])
+    requires { (mask.len ≡ total_of layout.components.now) × (out.old ≡ closed_words layout.components.now mask.words.now) }
     ensures { out.new ≡ out.old }
 {
     for _ in 0..times {
-        field_region::inner::close(components, offsets, words, out);
+        field_region::inner::close(layout, mask, out);
+    }
+}
+
+// The same of a closing.
+#[tactic(auto, unfolding(crate::specs::Repeated::count_answer))]
+fn repeated_closing(
+    layout: FieldAwareDofLayout,
+    mask: DofMask,
+    times: u64,
+    out: &mut [u64],
+) -> Answer
+    requires { (w : ℕ) → get_or mask.words.now w 0 < 2 ^ 64 }
+    ensures value { result ≡ count_answer (close_answer (check_closing layout.entry mask.entry out.old) mask.entry.len) }
+    ensures out_after { out.new ≡ close_words (check_closing layout.entry mask.entry out.old) layout.entry.blocks.components.now mask.entry.words.now out.old }
+{
+    match field_region::close_to_field_blocks(layout, mask, out) {
+        Err(r) => r.into(),
+        Ok(nodes) => {
+            let need = mask::inner::words_for(mask.len);
+            let accepted = Layout {
+                components: layout.blocks.components,
+                offsets: layout.offsets,
+            };
+            let seeds = Mask {
+                len: mask.len,
+                words: mask.words,
+            };
+            repeat_closing(accepted, seeds, times, &mut out[..need]);
+            nodes.into()
+        }
     }
 }
 
@@ -345,21 +415,10 @@ pub fn hybit_repeated_closing(
     ensures value { result ≡ count_answer (close_answer (close_check entity_kinds.now entity_ids.now field_ids.now components.now offsets.now len words.now out.old) len) }
     ensures out_after { out.new ≡ close_words (close_check entity_kinds.now entity_ids.now field_ids.now components.now offsets.now len words.now out.old) components.now words.now out.old }
 {
-    match field_region::close_to_field_blocks(
-        entity_kinds,
-        entity_ids,
-        field_ids,
-        components,
-        offsets,
-        len,
-        words,
+    repeated_closing(
+        views::layout(entity_kinds, entity_ids, field_ids, components, offsets),
+        views::mask(len, words),
+        times,
         out,
-    ) {
-        Err(r) => refused(r),
-        Ok(nodes) => {
-            let need = mask::inner::words_for(len);
-            repeat_closing(components, offsets, words, times, &mut out[..need]);
-            answered(nodes)
-        }
-    }
+    )
 }

@@ -1,50 +1,87 @@
 // The pattern of a region, its plan and a gather, each made many times after one check of its inputs: it leaves and answers what one call does.
-ghost use Rattle.std.specs.Prelude.{◌≡◌, true, ◌-◌, ◌<◌, ◌≤◌, length, get_or};
-ghost use Rattle.base.specs.Lists.{every, rising, below, over};
+ghost use Rattle.std.specs.Prelude.{◌≡◌, ◌-◌, ◌<◌, ◌≤◌, length};
+ghost use Rattle.base.specs.Lists.{over};
 ghost use Rattle.base.specs.Sets.{count_below, members_below};
-ghost use Rattle.mask.specs.Mask.{in_mask, IsMask};
+ghost use Rattle.mask.specs.Mask.{in_mask};
+ghost use Rattle.mask.specs.Views.{nodes};
 ghost use Rattle.csr32.specs.Matrix.{matrix_check, stored};
 ghost use Rattle.side.specs.Side.{side_holds};
-ghost use Rattle.side.specs.Check.{IsSide};
+ghost use Rattle.side.specs.Views.{holds, pairs};
 ghost use Rattle.dual_topology.specs.Check.{topology_check};
 ghost use Rattle.pattern.specs.Pattern.{pattern_check, pattern_answer, nodes_left, ptr_left, columns_left, pattern_ptr, pattern_columns, pairs_inside};
-ghost use Rattle.binding.specs.Steps.{sources_inside};
+ghost use Rattle.pattern.specs.Views.{check_pattern};
 ghost use Rattle.numeric_plan.specs.Plan.{pair_entries, plan_inputs, plan_check, plan_answer, source_ptr_left, sources_left};
+ghost use Rattle.numeric_plan.specs.Views.{lent_lists, check_plan};
 ghost use Rattle.gather.specs.Gather.{gather_check, gather_answer, gather_left, gathered};
 ghost use Rattle.repeated.specs.Repeated.{pairs_answer, sources_answer, count_answer};
-ghost use Rattle.repeated.specs.Held.{PlanHeld};
+ghost use Rattle.repeated.specs.Views.{Words, SystemHeld, terms_inside};
 
-use crate::{Answer, answered, refused};
+use crate::{Answer, views};
 use base::Refusal;
+use binding::inner::System;
+use csr32::Csr32Matrix;
+use csr32::inner::Matrix;
+use dual_topology::AbtmDualTopology;
+use gather::GatherPlan;
+use gather::inner::Plan;
+use mask::DofMask;
+use mask::inner::Mask;
+use pattern::inner::Local;
+use side::inner::Side;
 
 // The pattern `times` more, on lists that hold it: they stay as they are.
 fn repeat_pattern(
-    n: usize,
-    row_word_ptr: &[u32],
-    word_indices: &[u32],
-    masks: &[u64],
-    region: &[u64],
+    local: Local,
     times: u64,
     global_nodes: &mut [u32],
     row_ptr: &mut [u32],
     col_idx: &mut [u32],
 )
-    requires { IsSide n n row_word_ptr.now word_indices.now masks.now × IsMask n region.now × (count_below n (in_mask region.now) ≤ length global_nodes.old) × (count_below n (in_mask region.now) < length row_ptr.old) × (pairs_inside n (in_mask region.now) (side_holds row_word_ptr.now word_indices.now masks.now) ≤ length col_idx.old) × (over (members_below n (in_mask region.now)) global_nodes.old ≡ global_nodes.old) × (over (pattern_ptr n (in_mask region.now) (side_holds row_word_ptr.now word_indices.now masks.now)) row_ptr.old ≡ row_ptr.old) × (over (pattern_columns n (in_mask region.now) (side_holds row_word_ptr.now word_indices.now masks.now)) col_idx.old ≡ col_idx.old) }
+    requires { (count_below local.region.len (nodes local.region) ≤ length global_nodes.old) × (count_below local.region.len (nodes local.region) < length row_ptr.old) × (pairs_inside local.region.len (nodes local.region) (pairs local.rows) ≤ length col_idx.old) × (over (members_below local.region.len (nodes local.region)) global_nodes.old ≡ global_nodes.old) × (over (pattern_ptr local.region.len (nodes local.region) (pairs local.rows)) row_ptr.old ≡ row_ptr.old) × (over (pattern_columns local.region.len (nodes local.region) (pairs local.rows)) col_idx.old ≡ col_idx.old) }
     ensures members { global_nodes.new ≡ global_nodes.old }
     ensures pointers { row_ptr.new ≡ row_ptr.old }
     ensures columns { col_idx.new ≡ col_idx.old }
 {
     for _ in 0..times {
-        pattern::inner::write(
-            n,
-            row_word_ptr,
-            word_indices,
-            masks,
-            region,
-            global_nodes,
-            row_ptr,
-            col_idx,
-        );
+        local.write(global_nodes, row_ptr, col_idx);
+    }
+}
+
+// A pattern as lent, and `times` more with what its checks gave.
+#[tactic(auto, unfolding(crate::specs::Repeated::pairs_answer))]
+fn repeated_pattern<'a>(
+    topology: AbtmDualTopology<'a>,
+    mask: DofMask<'a>,
+    times: u64,
+    global_nodes: &mut [u32],
+    row_ptr: &mut [u32],
+    col_idx: &mut [u32],
+) -> Answer
+    requires { Words topology mask }
+    ensures value { result ≡ pairs_answer (pattern_answer (check_pattern topology.entry mask.entry global_nodes.old row_ptr.old col_idx.old) topology.entry.rows.nrows (in_mask mask.entry.words.now) (holds topology.entry.rows)) }
+    ensures members { global_nodes.new ≡ nodes_left (check_pattern topology.entry mask.entry global_nodes.old row_ptr.old col_idx.old) topology.entry.rows.nrows (in_mask mask.entry.words.now) global_nodes.old }
+    ensures pointers { row_ptr.new ≡ ptr_left (check_pattern topology.entry mask.entry global_nodes.old row_ptr.old col_idx.old) topology.entry.rows.nrows (in_mask mask.entry.words.now) (holds topology.entry.rows) row_ptr.old }
+    ensures columns { col_idx.new ≡ columns_left (check_pattern topology.entry mask.entry global_nodes.old row_ptr.old col_idx.old) topology.entry.rows.nrows (in_mask mask.entry.words.now) (holds topology.entry.rows) col_idx.old }
+{
+    match pattern::extract_local_submatrix_pattern(topology, mask, global_nodes, row_ptr, col_idx) {
+        Err(r) => r.into(),
+        Ok(s) => {
+            let n = topology.rows.nrows;
+            let rows = Side {
+                nrows: n,
+                ncols: n,
+                row_word_ptr: topology.rows.row_word_ptr,
+                word_indices: topology.rows.word_indices,
+                masks: topology.rows.masks,
+            };
+            let region = Mask {
+                len: n,
+                words: mask.words,
+            };
+            let local = Local { rows, region };
+            repeat_pattern(local, times, global_nodes, row_ptr, col_idx);
+            (s.local_nnz as u64).into()
+        }
     }
 }
 
@@ -74,80 +111,48 @@ pub fn hybit_repeated_pattern(
     ensures pointers { row_ptr.new ≡ ptr_left (pattern_check (topology_check nrows ncols row_word_ptr.now row_word_indices.now row_masks.now structural_nnz column_nrows column_ncols column_word_ptr.now column_word_indices.now column_masks.now column_structural_nnz) nrows ncols len words.now (side_holds row_word_ptr.now row_word_indices.now row_masks.now) global_nodes.old row_ptr.old col_idx.old) nrows (in_mask words.now) (side_holds row_word_ptr.now row_word_indices.now row_masks.now) row_ptr.old }
     ensures columns { col_idx.new ≡ columns_left (pattern_check (topology_check nrows ncols row_word_ptr.now row_word_indices.now row_masks.now structural_nnz column_nrows column_ncols column_word_ptr.now column_word_indices.now column_masks.now column_structural_nnz) nrows ncols len words.now (side_holds row_word_ptr.now row_word_indices.now row_masks.now) global_nodes.old row_ptr.old col_idx.old) nrows (in_mask words.now) (side_holds row_word_ptr.now row_word_indices.now row_masks.now) col_idx.old }
 {
-    match pattern::extract_local_submatrix_pattern(
-        nrows,
-        ncols,
-        row_word_ptr,
-        row_word_indices,
-        row_masks,
-        structural_nnz,
-        column_nrows,
-        column_ncols,
-        column_word_ptr,
-        column_word_indices,
-        column_masks,
-        column_structural_nnz,
-        len,
-        words,
+    repeated_pattern(
+        views::topology(
+            nrows,
+            ncols,
+            row_word_ptr,
+            row_word_indices,
+            row_masks,
+            structural_nnz,
+            column_nrows,
+            column_ncols,
+            column_word_ptr,
+            column_word_indices,
+            column_masks,
+            column_structural_nnz,
+        ),
+        views::mask(len, words),
+        times,
         global_nodes,
         row_ptr,
         col_idx,
-    ) {
-        Err(r) => refused(r),
-        Ok(s) => {
-            repeat_pattern(
-                nrows,
-                row_word_ptr,
-                row_word_indices,
-                row_masks,
-                words,
-                times,
-                global_nodes,
-                row_ptr,
-                col_idx,
-            );
-            answered(s.local_nnz as u64)
-        }
-    }
+    )
 }
 
-// The plan once more, on lists that hold it: they stay as they are. The count of its sources.
+// The plan once more, on lists that hold it: they stay as they are. The count of its sources. Lists that are written are no struct: a clause could
+// not name what each is left with.
 fn plan_again(
-    n: usize,
-    row_word_ptr: &[u32],
-    word_indices: &[u32],
-    masks: &[u64],
-    row_ptr: &[u32],
-    col_idx: &[u32],
-    region: &[u64],
+    system: System,
     nodes: &mut [u32],
     local_ptr: &mut [u32],
     local_cols: &mut [u32],
     source_ptr: &mut [u32],
     sources: &mut [u32],
 ) -> usize
-    requires { PlanHeld n row_word_ptr.now word_indices.now masks.now row_ptr.now col_idx.now region.now nodes.old local_ptr.old local_cols.old source_ptr.old sources.old }
-    ensures value { result ≡ sources_inside n (in_mask region.now) row_ptr.now col_idx.now }
+    requires { SystemHeld system nodes.old local_ptr.old local_cols.old source_ptr.old sources.old }
+    ensures value { result ≡ terms_inside system.entry }
     ensures members { nodes.new ≡ nodes.old }
     ensures pointers { local_ptr.new ≡ local_ptr.old }
     ensures columns { local_cols.new ≡ local_cols.old }
     ensures starts { source_ptr.new ≡ source_ptr.old }
     ensures entries { sources.new ≡ sources.old }
 {
-    match numeric_plan::inner::prepare(
-        n,
-        row_word_ptr,
-        word_indices,
-        masks,
-        region,
-        row_ptr,
-        col_idx,
-        nodes,
-        local_ptr,
-        local_cols,
-        source_ptr,
-        sources,
-    ) {
+    match numeric_plan::inner::prepare(system, nodes, local_ptr, local_cols, source_ptr, sources) {
         Err(_) => 0,
         Ok(s) => s.source_terms as usize,
     }
@@ -155,13 +160,7 @@ fn plan_again(
 
 // The plan `times` more, on lists that hold it: they stay as they are. The count of its sources.
 fn repeat_plan(
-    n: usize,
-    row_word_ptr: &[u32],
-    word_indices: &[u32],
-    masks: &[u64],
-    row_ptr: &[u32],
-    col_idx: &[u32],
-    region: &[u64],
+    system: System,
     first: usize,
     times: u64,
     nodes: &mut [u32],
@@ -170,7 +169,7 @@ fn repeat_plan(
     source_ptr: &mut [u32],
     sources: &mut [u32],
 ) -> usize
-    requires { PlanHeld n row_word_ptr.now word_indices.now masks.now row_ptr.now col_idx.now region.now nodes.old local_ptr.old local_cols.old source_ptr.old sources.old × (first ≡ sources_inside n (in_mask region.now) row_ptr.now col_idx.now) }
+    requires { SystemHeld system nodes.old local_ptr.old local_cols.old source_ptr.old sources.old × (first ≡ terms_inside system) }
     ensures value { result ≡ first }
     ensures members { nodes.new ≡ nodes.old }
     ensures pointers { local_ptr.new ≡ local_ptr.old }
@@ -180,22 +179,80 @@ fn repeat_plan(
 {
     let mut terms = first;
     for _ in 0..times {
-        terms = plan_again(
-            n,
-            row_word_ptr,
-            word_indices,
-            masks,
-            row_ptr,
-            col_idx,
-            region,
-            nodes,
-            local_ptr,
-            local_cols,
-            source_ptr,
-            sources,
-        );
+        terms = plan_again(system, nodes, local_ptr, local_cols, source_ptr, sources);
     }
     terms
+}
+
+// The same of a plan.
+#[tactic(auto, unfolding(crate::specs::Repeated::sources_answer))]
+fn repeated_plan<'a>(
+    topology: AbtmDualTopology<'a>,
+    matrix: Csr32Matrix<'a>,
+    mask: DofMask<'a>,
+    times: u64,
+    global_nodes: &mut [u32],
+    local_row_ptr: &mut [u32],
+    local_col_idx: &mut [u32],
+    source_ptr: &mut [u32],
+    source_indices: &mut [u32],
+) -> Answer
+    requires { Words topology mask }
+    ensures value { result ≡ sources_answer (plan_answer (check_plan topology.entry matrix.entry mask.entry global_nodes.old local_row_ptr.old local_col_idx.old source_ptr.old source_indices.old) topology.entry.rows.nrows (in_mask mask.entry.words.now) (lent_lists topology.entry matrix.entry mask.entry)) }
+    ensures members { global_nodes.new ≡ nodes_left (check_plan topology.entry matrix.entry mask.entry global_nodes.old local_row_ptr.old local_col_idx.old source_ptr.old source_indices.old) topology.entry.rows.nrows (in_mask mask.entry.words.now) global_nodes.old }
+    ensures pointers { local_row_ptr.new ≡ ptr_left (check_plan topology.entry matrix.entry mask.entry global_nodes.old local_row_ptr.old local_col_idx.old source_ptr.old source_indices.old) topology.entry.rows.nrows (in_mask mask.entry.words.now) (holds topology.entry.rows) local_row_ptr.old }
+    ensures columns { local_col_idx.new ≡ columns_left (check_plan topology.entry matrix.entry mask.entry global_nodes.old local_row_ptr.old local_col_idx.old source_ptr.old source_indices.old) topology.entry.rows.nrows (in_mask mask.entry.words.now) (holds topology.entry.rows) local_col_idx.old }
+    ensures starts { source_ptr.new ≡ source_ptr_left (check_plan topology.entry matrix.entry mask.entry global_nodes.old local_row_ptr.old local_col_idx.old source_ptr.old source_indices.old) (lent_lists topology.entry matrix.entry mask.entry) source_ptr.old }
+    ensures sources { source_indices.new ≡ sources_left (check_plan topology.entry matrix.entry mask.entry global_nodes.old local_row_ptr.old local_col_idx.old source_ptr.old source_indices.old) (lent_lists topology.entry matrix.entry mask.entry) source_indices.old }
+{
+    match numeric_plan::prepare_local_numeric_plan(
+        topology,
+        matrix,
+        mask,
+        global_nodes,
+        local_row_ptr,
+        local_col_idx,
+        source_ptr,
+        source_indices,
+    ) {
+        Err(r) => r.into(),
+        Ok(s) => {
+            let n = topology.rows.nrows;
+            let rows = Side {
+                nrows: n,
+                ncols: n,
+                row_word_ptr: topology.rows.row_word_ptr,
+                word_indices: topology.rows.word_indices,
+                masks: topology.rows.masks,
+            };
+            let region = Mask {
+                len: n,
+                words: mask.words,
+            };
+            let local = Local { rows, region };
+            let accepted = Matrix {
+                nrows: n,
+                ncols: n,
+                row_ptr: matrix.row_ptr,
+                col_idx: matrix.col_idx,
+            };
+            let system = System {
+                local,
+                matrix: accepted,
+            };
+            let terms = repeat_plan(
+                system,
+                s.source_terms as usize,
+                times,
+                global_nodes,
+                local_row_ptr,
+                local_col_idx,
+                source_ptr,
+                source_indices,
+            );
+            (terms as u64).into()
+        }
+    }
 }
 
 // The value is the count of sources.
@@ -233,66 +290,44 @@ pub fn hybit_repeated_plan(
     ensures starts { source_ptr.new ≡ source_ptr_left (plan_check (plan_inputs (matrix_check matrix_nrows matrix_ncols row_ptr.now col_idx.now values.now) (topology_check nrows ncols row_word_ptr.now row_word_indices.now row_masks.now structural_nnz column_nrows column_ncols column_word_ptr.now column_word_indices.now column_masks.now column_structural_nnz) matrix_nrows matrix_ncols nrows ncols len words.now (side_holds row_word_ptr.now row_word_indices.now row_masks.now) (stored row_ptr.now col_idx.now)) nrows (in_mask words.now) (side_holds row_word_ptr.now row_word_indices.now row_masks.now) (pair_entries nrows (in_mask words.now) (side_holds row_word_ptr.now row_word_indices.now row_masks.now) row_ptr.now col_idx.now) global_nodes.old local_row_ptr.old local_col_idx.old source_ptr.old source_indices.old) (pair_entries nrows (in_mask words.now) (side_holds row_word_ptr.now row_word_indices.now row_masks.now) row_ptr.now col_idx.now) source_ptr.old }
     ensures sources { source_indices.new ≡ sources_left (plan_check (plan_inputs (matrix_check matrix_nrows matrix_ncols row_ptr.now col_idx.now values.now) (topology_check nrows ncols row_word_ptr.now row_word_indices.now row_masks.now structural_nnz column_nrows column_ncols column_word_ptr.now column_word_indices.now column_masks.now column_structural_nnz) matrix_nrows matrix_ncols nrows ncols len words.now (side_holds row_word_ptr.now row_word_indices.now row_masks.now) (stored row_ptr.now col_idx.now)) nrows (in_mask words.now) (side_holds row_word_ptr.now row_word_indices.now row_masks.now) (pair_entries nrows (in_mask words.now) (side_holds row_word_ptr.now row_word_indices.now row_masks.now) row_ptr.now col_idx.now) global_nodes.old local_row_ptr.old local_col_idx.old source_ptr.old source_indices.old) (pair_entries nrows (in_mask words.now) (side_holds row_word_ptr.now row_word_indices.now row_masks.now) row_ptr.now col_idx.now) source_indices.old }
 {
-    match numeric_plan::prepare_local_numeric_plan(
-        nrows,
-        ncols,
-        row_word_ptr,
-        row_word_indices,
-        row_masks,
-        structural_nnz,
-        column_nrows,
-        column_ncols,
-        column_word_ptr,
-        column_word_indices,
-        column_masks,
-        column_structural_nnz,
-        matrix_nrows,
-        matrix_ncols,
-        row_ptr,
-        col_idx,
-        values,
-        len,
-        words,
+    repeated_plan(
+        views::topology(
+            nrows,
+            ncols,
+            row_word_ptr,
+            row_word_indices,
+            row_masks,
+            structural_nnz,
+            column_nrows,
+            column_ncols,
+            column_word_ptr,
+            column_word_indices,
+            column_masks,
+            column_structural_nnz,
+        ),
+        views::matrix(matrix_nrows, matrix_ncols, row_ptr, col_idx, values),
+        views::mask(len, words),
+        times,
         global_nodes,
         local_row_ptr,
         local_col_idx,
         source_ptr,
         source_indices,
-    ) {
-        Err(r) => refused(r),
-        Ok(s) => {
-            let terms = repeat_plan(
-                nrows,
-                row_word_ptr,
-                row_word_indices,
-                row_masks,
-                row_ptr,
-                col_idx,
-                words,
-                s.source_terms as usize,
-                times,
-                global_nodes,
-                local_row_ptr,
-                local_col_idx,
-                source_ptr,
-                source_indices,
-            );
-            answered(terms as u64)
-        }
-    }
+    )
 }
 
 // The gather `times` more, on a list that holds it: it stays as it is.
-fn repeat_gather(ptr: &[u32], sources: &[u32], values: &[f64], times: u64, out: &mut [f64])
-    requires { (0 < length ptr.now) × (get_or ptr.now 0 0 ≡ 0) × (rising ptr.now ≡ true) × (get_or ptr.now (length ptr.now - 1) 0 ≡ length sources.now) × (every (below (length values.now)) sources.now ≡ true) × (length ptr.now - 1 ≤ length out.old) × (over (gathered ptr.now sources.now values.now) out.old ≡ out.old) }
+fn repeat_gather(plan: Plan, times: u64, out: &mut [f64])
+    requires { (length plan.ptr.now - 1 ≤ length out.old) × (over (gathered plan.ptr.now plan.sources.now plan.values.now) out.old ≡ out.old) }
     ensures { out.new ≡ out.old }
 {
     for _ in 0..times {
-        gather::inner::gather(ptr, sources, values, out);
+        plan.gather(out);
     }
 }
 
 // The value is the count of pairs.
+#[tactic(auto, unfolding(crate::specs::Repeated::count_answer))]
 pub fn hybit_repeated_gather(
     source_ptr: &[u32],
     source_indices: &[u32],
@@ -304,11 +339,21 @@ pub fn hybit_repeated_gather(
     ensures value { result ≡ count_answer (gather_answer (gather_check source_ptr.now source_indices.now source_value_len values.now out.old) source_ptr.now) }
     ensures out_after { out.new ≡ gather_left (gather_check source_ptr.now source_indices.now source_value_len values.now out.old) source_ptr.now source_indices.now values.now out.old }
 {
-    match gather::gather_values(source_ptr, source_indices, source_value_len, values, out) {
-        Err(r) => refused(r),
+    let plan = GatherPlan {
+        source_ptr,
+        source_indices,
+        source_value_len,
+    };
+    match plan.gather_values(values, out) {
+        Err(r) => r.into(),
         Ok(pairs) => {
-            repeat_gather(source_ptr, source_indices, values, times, out);
-            answered(pairs)
+            let accepted = Plan {
+                ptr: source_ptr,
+                sources: source_indices,
+                values,
+            };
+            repeat_gather(accepted, times, out);
+            pairs.into()
         }
     }
 }

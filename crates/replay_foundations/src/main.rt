@@ -1,158 +1,202 @@
 // Replays recorded answers of the original Rust: records of 448 bytes on standard input, each a call, and for each an answer record of 168
-// bytes on standard output. oracle/README.md says what a record holds and how the records are made.
+// bytes on standard output. oracle/README.md says what a record holds, and where, and how the records are made.
 #![tactic(auto)]
 
-ghost use Rattle.std.specs.Prelude.{◌≡◌, ◌≤◌, length};
+ghost use Rattle.std.specs.Prelude.{◌≡◌, length};
 
-use hybit_matrix::Answer;
-use records::inner::{count_at, digit, number_at, put_list, put_number, read_list};
+use hybit_matrix::{
+    hybit_csr32_validate, hybit_mask_and_not_assign, hybit_mask_check, hybit_mask_contains,
+    hybit_mask_count_ones, hybit_mask_from_indices, hybit_mask_indices,
+    hybit_mask_intersect_assign, hybit_mask_intersects, hybit_mask_is_empty, hybit_mask_new,
+    hybit_mask_or_word, hybit_mask_set, hybit_mask_union_assign, hybit_word_base_col,
+    hybit_word_bits, hybit_word_contains_offset, hybit_word_mask, hybit_word_popcount,
+    hybit_word_rank, hybit_word_select, hybit_word_word_index,
+};
+use recorded::inner::Recorded;
+use records::inner::{List, number_at, put_list};
 use std::io;
-use streams::answer_records;
+use streams::inner::answer_records;
 
-fn put_answer(out: &mut [u8], a: Answer)
+enum WordCall {
+    Bits,
+    WordIndex,
+    BaseCol,
+    Mask,
+    Popcount,
+    ContainsOffset,
+    Rank,
+    Select,
+}
+
+// The calls that only read their mask, or two.
+enum MaskReading {
+    Check,
+    IsEmpty,
+    CountOnes,
+    Contains,
+    Intersects,
+}
+
+// Those that write list 1.
+enum MaskWriting {
+    New,
+    FromIndices,
+    Set,
+    UnionAssign,
+    IntersectAssign,
+    AndNotAssign,
+    OrWord,
+}
+
+enum Call {
+    Word(WordCall),
+    Matrix,
+    ReadMask(MaskReading),
+    Indices,
+    WriteMask(MaskWriting),
+}
+
+// By a record's first byte. 0 and a byte past 22 name no call: they ask for what 8 and 22 do.
+impl From<u8> for Call {
+    fn from(byte: u8) -> Call {
+        match byte {
+            1 => Call::Word(WordCall::Bits),
+            2 => Call::Word(WordCall::WordIndex),
+            3 => Call::Word(WordCall::BaseCol),
+            4 => Call::Word(WordCall::Mask),
+            5 => Call::Word(WordCall::Popcount),
+            6 => Call::Word(WordCall::ContainsOffset),
+            7 => Call::Word(WordCall::Rank),
+            0 | 8 => Call::Word(WordCall::Select),
+            9 => Call::Matrix,
+            10 => Call::ReadMask(MaskReading::Check),
+            11 => Call::WriteMask(MaskWriting::New),
+            12 => Call::WriteMask(MaskWriting::FromIndices),
+            13 => Call::ReadMask(MaskReading::IsEmpty),
+            14 => Call::ReadMask(MaskReading::CountOnes),
+            15 => Call::WriteMask(MaskWriting::Set),
+            16 => Call::ReadMask(MaskReading::Contains),
+            17 => Call::WriteMask(MaskWriting::UnionAssign),
+            18 => Call::WriteMask(MaskWriting::IntersectAssign),
+            19 => Call::WriteMask(MaskWriting::AndNotAssign),
+            20 => Call::ReadMask(MaskReading::Intersects),
+            21 => Call::Indices,
+            _ => Call::WriteMask(MaskWriting::OrWord),
+        }
+    }
+}
+
+// The value of a call that cannot refuse.
+fn put_value(out: &mut [u8], value: u64)
     requires { length out.old ≡ 168 }
 {
-    put_number(out, 0, a.number as u64);
-    put_number(out, 8, digit(a.present));
-    put_number(out, 16, a.expected);
-    put_number(out, 24, a.actual);
-    put_number(out, 32, a.value);
+    put_list(out, 0, &[0, 1, 0, 0, value]);
 }
 
-fn plain(value: u64) -> Answer {
-    Answer {
-        number: 0,
-        present: true,
-        expected: 0,
-        actual: 0,
-        value,
-    }
-}
-
-fn word_call(code: u8, index: u32, mask: u64, k: usize) -> Answer {
-    match code {
-        1 => plain(hybit_matrix::hybit_word_bits() as u64),
-        2 => plain(hybit_matrix::hybit_word_word_index(index, mask) as u64),
-        3 => plain(hybit_matrix::hybit_word_base_col(index, mask) as u64),
-        4 => plain(hybit_matrix::hybit_word_mask(index, mask)),
-        5 => plain(hybit_matrix::hybit_word_popcount(index, mask) as u64),
-        6 => plain(digit(hybit_matrix::hybit_word_contains_offset(index, mask, k))),
-        7 => hybit_matrix::hybit_word_rank(index, mask, k),
-        _ => hybit_matrix::hybit_word_select(index, mask, k),
-    }
-}
-
-fn matrix_call(call: &[u8]) -> Answer
-    requires { length call.now ≡ 448 }
+fn answer_word(word: WordCall, call: &[u8], out: &mut [u8])
+    requires { (length call.now ≡ 448) × (length out.old ≡ 168) }
 {
-    let mut row_ptr = [0u32; 16];
-    read_list(call, 64, &mut row_ptr);
-    let mut col_idx = [0u32; 16];
-    read_list(call, 192, &mut col_idx);
-    let mut values = [0.0; 16];
-    read_list(call, 320, &mut values);
-    let rows = count_at(call, 40, 16);
-    let cols = count_at(call, 48, 16);
-    let reals = count_at(call, 56, 16);
-    hybit_matrix::hybit_csr32_validate(
-        number_at(call, 8) as usize,
-        number_at(call, 16) as usize,
-        &row_ptr[0..rows],
-        &col_idx[0..cols],
-        &values[0..reals],
+    let index = (number_at(call, 8) % 4294967296) as u32;
+    let mask = number_at(call, 16);
+    let k = number_at(call, 24) as usize;
+    match word {
+        WordCall::Bits => put_value(out, hybit_word_bits() as u64),
+        WordCall::WordIndex => put_value(out, hybit_word_word_index(index, mask) as u64),
+        WordCall::BaseCol => put_value(out, hybit_word_base_col(index, mask) as u64),
+        WordCall::Mask => put_value(out, hybit_word_mask(index, mask)),
+        WordCall::Popcount => put_value(out, hybit_word_popcount(index, mask) as u64),
+        WordCall::ContainsOffset => {
+            put_value(out, u64::from(hybit_word_contains_offset(index, mask, k)));
+        }
+        WordCall::Rank => hybit_word_rank(index, mask, k).put(out),
+        WordCall::Select => hybit_word_select(index, mask, k).put(out),
+    }
+}
+
+fn answer_matrix(call: &[u8], out: &mut [u8])
+    requires { (length call.now ≡ 448) × (length out.old ≡ 168) }
+{
+    let row_ptr: List<u32, 16> = List::read(call, 40, 64);
+    let col_idx: List<u32, 16> = List::read(call, 48, 192);
+    let values: List<f64, 16> = List::read(call, 56, 320);
+    let nrows = number_at(call, 8) as usize;
+    let ncols = number_at(call, 16) as usize;
+    hybit_csr32_validate(
+        nrows,
+        ncols,
+        row_ptr.as_slice(),
+        col_idx.as_slice(),
+        values.as_slice(),
     )
+    .put(out);
 }
 
-// A call that only reads its mask, or two.
-fn reading_call(code: u8, len: usize, words: &[u64], b: u64, other: &[u64]) -> Answer {
-    match code {
-        10 => hybit_matrix::hybit_mask_check(len, words),
-        13 => hybit_matrix::hybit_mask_is_empty(len, words),
-        14 => hybit_matrix::hybit_mask_count_ones(len, words),
-        16 => hybit_matrix::hybit_mask_contains(len, words, b),
-        _ => hybit_matrix::hybit_mask_intersects(len, words, b as usize, other),
-    }
-}
-
-// A call that writes list 1.
-fn writing_call(code: u8, len: usize, list: &mut [u64], b: u64, c: u64, other: &[u64]) -> Answer {
-    match code {
-        11 => hybit_matrix::hybit_mask_new(len, list),
-        12 => hybit_matrix::hybit_mask_from_indices(len, other, list),
-        15 => hybit_matrix::hybit_mask_set(len, list, b, c == 1),
-        17 => hybit_matrix::hybit_mask_union_assign(len, list, b as usize, other),
-        18 => hybit_matrix::hybit_mask_intersect_assign(len, list, b as usize, other),
-        19 => hybit_matrix::hybit_mask_and_not_assign(len, list, b as usize, other),
-        _ => hybit_matrix::hybit_mask_or_word(len, list, b, c),
-    }
-}
-
-fn run_writing(
-    code: u8,
-    len: usize,
-    list: &mut [u64],
-    b: u64,
-    c: u64,
-    other: &[u64],
-    out: &mut [u8],
-)
-    requires { (length list.old ≤ 16) × (length out.old ≡ 168) }
+fn read_mask(reading: MaskReading, call: &[u8], out: &mut [u8])
+    requires { (length call.now ≡ 448) × (length out.old ≡ 168) }
 {
-    let a = writing_call(code, len, list, b, c, other);
-    put_answer(out, a);
-    put_list(out, 40, list);
+    let len = number_at(call, 8) as usize;
+    let b = number_at(call, 16);
+    let list: List<u64, 16> = List::read(call, 40, 64);
+    let words = list.as_slice();
+    let other: List<u64, 16> = List::read(call, 48, 192);
+    match reading {
+        MaskReading::Check => hybit_mask_check(len, words),
+        MaskReading::IsEmpty => hybit_mask_is_empty(len, words),
+        MaskReading::CountOnes => hybit_mask_count_ones(len, words),
+        MaskReading::Contains => hybit_mask_contains(len, words, b),
+        MaskReading::Intersects => {
+            hybit_mask_intersects(len, words, b as usize, other.as_slice())
+        }
+    }
+    .put(out);
 }
 
-fn run_indices(len: usize, words: &[u64], list: &mut [u64], out: &mut [u8])
-    requires { (length list.old ≤ 16) × (length out.old ≡ 168) }
+fn write_indices(call: &[u8], out: &mut [u8])
+    requires { (length call.now ≡ 448) × (length out.old ≡ 168) }
 {
-    let a = hybit_matrix::hybit_mask_indices(len, words, list);
-    put_answer(out, a);
-    put_list(out, 40, list);
+    let len = number_at(call, 8) as usize;
+    let words: List<u64, 16> = List::read(call, 40, 64);
+    let mut list: List<u64, 16> = List::read(call, 48, 192);
+    hybit_mask_indices(len, words.as_slice(), list.as_mut_slice()).put(out);
+    put_list(out, 40, list.as_slice());
 }
 
-fn mask_call(code: u8, call: &[u8], out: &mut [u8])
+fn write_mask(writing: MaskWriting, call: &[u8], out: &mut [u8])
     requires { (length call.now ≡ 448) × (length out.old ≡ 168) }
 {
     let len = number_at(call, 8) as usize;
     let b = number_at(call, 16);
     let c = number_at(call, 24);
-    let n1 = count_at(call, 40, 16);
-    let n2 = count_at(call, 48, 16);
-    let mut list1 = [0u64; 16];
-    read_list(call, 64, &mut list1);
-    let mut list2 = [0u64; 16];
-    read_list(call, 192, &mut list2);
-    match code {
-        10 | 13 | 14 | 16 | 20 => {
-            put_answer(
-                out,
-                reading_call(code, len, &list1[0..n1], b, &list2[0..n2]),
-            );
-        }
-        21 => run_indices(len, &list1[0..n1], &mut list2[0..n2], out),
-        _ => run_writing(code, len, &mut list1[0..n1], b, c, &list2[0..n2], out),
+    let mut list: List<u64, 16> = List::read(call, 40, 64);
+    let words = list.as_mut_slice();
+    let second: List<u64, 16> = List::read(call, 48, 192);
+    let other = second.as_slice();
+    match writing {
+        MaskWriting::New => hybit_mask_new(len, words),
+        MaskWriting::FromIndices => hybit_mask_from_indices(len, other, words),
+        MaskWriting::Set => hybit_mask_set(len, words, b, c == 1),
+        MaskWriting::UnionAssign => hybit_mask_union_assign(len, words, b as usize, other),
+        MaskWriting::IntersectAssign => hybit_mask_intersect_assign(len, words, b as usize, other),
+        MaskWriting::AndNotAssign => hybit_mask_and_not_assign(len, words, b as usize, other),
+        MaskWriting::OrWord => hybit_mask_or_word(len, words, b, c),
     }
+    .put(out);
+    put_list(out, 40, list.as_slice());
 }
 
 fn answer(call: &[u8], out: &mut [u8])
     requires { (length call.now ≡ 448) × (length out.old ≡ 168) }
 {
-    let code = call[0];
-    if code < 9 {
-        let index = (number_at(call, 8) % 4294967296) as u32;
-        let mask = number_at(call, 16);
-        let k = number_at(call, 24) as usize;
-        put_answer(out, word_call(code, index, mask, k));
-        return;
+    match Call::from(call[0]) {
+        Call::Word(word) => answer_word(word, call, out),
+        Call::Matrix => answer_matrix(call, out),
+        Call::ReadMask(reading) => read_mask(reading, call, out),
+        Call::Indices => write_indices(call, out),
+        Call::WriteMask(writing) => write_mask(writing, call, out),
     }
-    if code == 9 {
-        put_answer(out, matrix_call(call));
-        return;
-    }
-    mask_call(code, call, out);
 }
 
+// Alike in the programs that replay records, but for the lengths of their records: one call is all that is left.
 fn main(rt: HostRuntime) -> io::Result<()> {
     let mut input = rt.reader();
     let mut output = io::writer(&rt);

@@ -1,4 +1,5 @@
 // Recorded job texts, replayed: each is a length of 8 bytes and the text; the answers are written one after the other.
+// Texts and answers are held in arrays: memory is fixed, as a rule of the project.
 #![tactic(auto)]
 
 ghost use Rattle.std.specs.Prelude.{◌≤◌, length as List·length};

@@ -1,6 +1,6 @@
 -- What the check of a side accepts: exactly the sides. Assumes nothing.
 use mathlib.Core.Path.{◌≡◌, refl, sym, ap, ◌∙◌, subst}
-use Rattle.std.specs.Prelude.{Ok}
+use Rattle.std.specs.Prelude.{Ok, Err, IfOk}
 use Rattle.base.specs.declared.Refusal.TheVariants.{BadTopology}
 use mathlib.Core.Logic.{◌⊎◌, inl, inr}
 use mathlib.Core.Bool.{Bool, true, false, not, cond, ◌&&◌, ◌||◌}
@@ -11,7 +11,7 @@ use native.Mathlib.Nat.{le_refl}
 use borrow.Author.Tests.{leb-true, eqb-true, ltb-false, le-leb, lt-ltb, le-ltb, eq-eqb, ltb-true}
 use lib.Dec.{T, leb, eqb, ltb, lt→ltb, ltb→lt}
 use lib.ListN.{length, get_or}
-use Rattle.base.specs.Checks.{must, ◌then◌, side_limit, entry_limit}
+use Rattle.base.specs.Checks.{Check, must, ◌then◌, side_limit, entry_limit}
 use Rattle.base.specs.Lists.{rising}
 use Rattle.base.specs.Sets.{first_below}
 use Rattle.base.proofs.Bools.{and_left, and_right, and_i, T_of, T_true, or-e, or_l, or_r, eq-or-ne, lt-or-le, T-not-zero, not-zero-T}
@@ -31,6 +31,19 @@ sound-only Fault.Sound e = refl
 sound-only Fault.Lists e = absurd (refused-not-accepted BadTopology e)
 sound-only (Fault.Word w) e = absurd (refused-not-accepted BadTopology e)
 sound-only Fault.Disagree e = absurd (refused-not-accepted BadTopology e)
+
+-- so what is known where there is none is known of an accepted one
+pub if-sound : {P : Type 0} (f : Fault) → (f ≡ Fault.Sound → P) → IfOk (fault_check f) (λ t. P)
+unfolding fault_check
+if-sound Fault.Sound h = h refl
+if-sound Fault.Lists h = tt
+if-sound (Fault.Word w) h = tt
+if-sound Fault.Disagree h = tt
+
+-- and what is known at any rate
+pub if-known : {P : Type 0} (r : Check) → P → IfOk r (λ t. P)
+if-known (Ok t) p = p
+if-known (Err e) p = tt
 
 pub sound-accepted : (f : Fault) → f ≡ Fault.Sound → fault_check f ≡ Ok tt
 unfolding fault_check

@@ -1,16 +1,32 @@
 -- What the search for a word says of a column. Assumes nothing.
 use mathlib.Core.Path.{◌≡◌, sym, ap, ◌∙◌}
-use mathlib.Core.Logic.{◌≢◌}
+use mathlib.Core.Logic.{◌≢◌, ◌⊎◌, inl, inr}
 use mathlib.Core.List.{List}
-use Prim.Native.Nat.{ℕ, ◌/◌, ◌≤◌, ◌<◌}
+use Prim.Native.Nat.{ℕ, ◌+◌, ◌-◌, ◌/◌, ◌≤◌, ◌<◌}
 use native.Mathlib.Omega.{arith}
 use native.Mathlib.Decide.{ℕ_discrete, dec_lt}
+use lib.Dec.{T, leb, leb→le, le→leb}
 use lib.ListN.{length, get_or}
+use Rattle.base.specs.Sets.{first_below}
+use Rattle.base.proofs.Bools.{lt-or-le}
+use Rattle.base.proofs.Sets.{first-from, none_from}
 use mathlib.Core.Bool.{false}
 use Rattle.side.specs.Side.{row_holds}
 use Rattle.side.specs.Check.{Rising}
-use Rattle.side.specs.Row.{Lower}
+use Rattle.side.specs.Row.{lower_in, Lower}
 use Rattle.side.proofs.Holding.{holds_not}
+
+-- the place is the first
+pub lower-is : (l : List ℕ) (from to x r : ℕ) → Lower l from to x r → r ≡ lower_in l from to x
+unfolding lower_in
+lower-is l from to x r w = go (lt-or-le r to)
+  where
+    under : (k : ℕ) → from ≤ k → k < r → T (leb x (get_or l k 0)) → ⊥
+    under k a b t = omega (arith, w.below k a b, leb→le x (get_or l k 0) t)
+
+    go : (r < to) ⊎ (to ≤ r) → r ≡ from + first_below (to - from) (λ j. leb x (get_or l (from + j) 0))
+    go (inl h) = first-from (λ k. leb x (get_or l k 0)) from to r w.low h (le→leb x (get_or l r 0) (w.above r (omega arith) h)) under
+    go (inr h) = let e : r ≡ to = omega (arith, w.high) in e ∙ none_from (λ k. leb x (get_or l k 0)) from to (omega (arith, w.low)) (λ k a b. under k a (omega arith))
 
 -- a column whose word is not at the place is not held
 pub lower-none : (idx masks : List ℕ) (from to c r : ℕ) → from ≤ to → to ≤ length idx → to ≤ length masks → Rising idx from to → Lower idx from to (c / 64) r

@@ -2,3 +2,4 @@ pub mod Side
 pub mod Check
 pub mod Row
 pub mod Built
+pub mod Views

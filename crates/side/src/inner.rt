@@ -5,39 +5,65 @@ ghost use Rattle.base.specs.Sets.{first_below, count_below, members_below};
 ghost use Rattle.word.specs.Answers.{entry};
 ghost use Rattle.side.specs.Side.{words_of_row, row_holds, side_holds, word_at};
 ghost use Rattle.side.specs.Check.{limit_check, side_room, bits_in, is_word_inside, good_word, words_fault, side_fault, Rising, IsRows, IsSide};
-ghost use Rattle.side.specs.Row.{Lower, IsRow, Inside};
+ghost use Rattle.side.specs.declared.Fault.{Fault};
+ghost use Rattle.side.specs.Row.{lower_in, Lower, IsRow, Inside};
 
-use crate::{BadWord, Fault};
+use crate::{AbtmTopology, BadWord, Fault};
 use base::Refusal;
 use word::AbtmTopologyWord;
 
-// Refusal 1 of one side.
-#[tactic(auto, using(base::proofs::Checks::checks), unfolding(crate::specs::Check::limit_check))]
-pub fn check_limits(
-    nrows: usize,
-    ncols: usize,
-    word_indices: &[u32],
-    masks: &[u64],
-    structural_nnz: usize,
-) -> Result<(), Refusal>
-    ensures { result ≡ limit_check nrows ncols word_indices.now masks.now structural_nnz }
-{
-    if nrows > base::SIDE_LIMIT {
-        return Err(Refusal::OverLimit);
+// A side that was accepted.
+#[derive(Clone, Copy)]
+pub struct Side<'a> {
+    pub nrows: usize,
+    pub ncols: usize,
+    pub row_word_ptr: &'a [u32],
+    pub word_indices: &'a [u32],
+    pub masks: &'a [u64],
+    ghost accepted: { IsSide nrows ncols row_word_ptr.now word_indices.now masks.now },
+}
+
+impl AbtmTopology<'_> {
+    ghost use Rattle.side.specs.Views.{SoundSide, WithinLimits};
+
+    // Refusal 1 of one side.
+    #[tactic(auto, using(base::proofs::Checks::checks), unfolding(crate::specs::Check::limit_check))]
+    pub fn check_limits(self) -> Result<(), Refusal>
+        ensures { result ≡ limit_check self.entry.nrows self.entry.ncols self.entry.word_indices.now self.entry.masks.now self.entry.structural_nnz }
+    {
+        if self.nrows > base::SIDE_LIMIT {
+            return Err(Refusal::OverLimit);
+        }
+        if self.ncols > base::SIDE_LIMIT {
+            return Err(Refusal::OverLimit);
+        }
+        if self.word_indices.len() > base::ENTRY_LIMIT {
+            return Err(Refusal::OverLimit);
+        }
+        if self.masks.len() > base::ENTRY_LIMIT {
+            return Err(Refusal::OverLimit);
+        }
+        if self.structural_nnz > base::ENTRY_LIMIT {
+            return Err(Refusal::OverLimit);
+        }
+        Ok(())
     }
-    if ncols > base::SIDE_LIMIT {
-        return Err(Refusal::OverLimit);
+
+    // Its first fault, where it is within the limits.
+    pub fn fault(self) -> Fault
+        requires { WithinLimits self }
+        ensures value { result ≡ side_fault self.entry.nrows self.entry.ncols self.entry.row_word_ptr.now self.entry.word_indices.now self.entry.masks.now self.entry.structural_nnz }
+        ensures sound { result ≡ Fault.Sound → SoundSide self.entry }
+    {
+        first_fault(
+            self.nrows,
+            self.ncols,
+            self.row_word_ptr,
+            self.word_indices,
+            self.masks,
+            self.structural_nnz,
+        )
     }
-    if word_indices.len() > base::ENTRY_LIMIT {
-        return Err(Refusal::OverLimit);
-    }
-    if masks.len() > base::ENTRY_LIMIT {
-        return Err(Refusal::OverLimit);
-    }
-    if structural_nnz > base::ENTRY_LIMIT {
-        return Err(Refusal::OverLimit);
-    }
-    Ok(())
 }
 
 // Refusal 25 of a side that is written.
@@ -77,7 +103,7 @@ pub fn count_bits(masks: &[u64], from: usize, to: usize) -> usize
 }
 
 // Whether no bit of the word, which is not 0, is at or past ncols.
-pub fn word_inside(ncols: usize, word: u32, mask: u64) -> bool
+fn word_inside(ncols: usize, word: u32, mask: u64) -> bool
     requires { (0 < mask) × (ncols ≤ side_limit) }
     ensures { result ≡ is_word_inside ncols word mask }
 {
@@ -93,7 +119,7 @@ pub fn word_inside(ncols: usize, word: u32, mask: u64) -> bool
 }
 
 // The first bad word of the row whose words stand at from..to, or `to`.
-pub fn first_bad(ncols: usize, word_indices: &[u32], masks: &[u64], from: usize, to: usize) -> usize
+fn first_bad(ncols: usize, word_indices: &[u32], masks: &[u64], from: usize, to: usize) -> usize
     requires { (ncols ≤ side_limit) × (from ≤ to) × (to ≤ length word_indices.now) × (to ≤ length masks.now) }
     ensures { result ≡ from + first_below (to - from) (λ j. not (good_word ncols word_indices.now masks.now from (from + j))) }
 {
@@ -116,7 +142,7 @@ pub fn first_bad(ncols: usize, word_indices: &[u32], masks: &[u64], from: usize,
 }
 
 // The first bad word of a side whose lengths and pointers are right.
-pub fn check_words(
+fn check_words(
     nrows: usize,
     ncols: usize,
     row_word_ptr: &[u32],
@@ -140,9 +166,9 @@ pub fn check_words(
     Fault::Sound
 }
 
-// The first fault of one side within the limits.
+// The first fault of one side within the limits. That words are below 2 ^ 64 is known of a list that is handed in, and not of one in a struct.
 #[tactic(auto, unfolding(crate::specs::Check::side_fault, crate::specs::Check::lists_agree))]
-pub fn fault(
+fn first_fault(
     nrows: usize,
     ncols: usize,
     row_word_ptr: &[u32],
@@ -150,8 +176,9 @@ pub fn fault(
     masks: &[u64],
     structural_nnz: usize,
 ) -> Fault
-    requires { (nrows ≤ side_limit) × (ncols ≤ side_limit) × (length masks.now ≤ entry_limit) }
-    ensures { result ≡ side_fault nrows ncols row_word_ptr.now word_indices.now masks.now structural_nnz }
+    requires { (nrows ≤ side_limit) × (ncols ≤ side_limit) × (length masks.now ≤ entry_limit) × (structural_nnz ≤ entry_limit) }
+    ensures value { result ≡ side_fault nrows ncols row_word_ptr.now word_indices.now masks.now structural_nnz }
+    ensures sound { result ≡ Fault.Sound → IsSide nrows ncols row_word_ptr.now word_indices.now masks.now × (structural_nnz ≡ bits_in masks.now 0 (length masks.now)) }
 {
     if row_word_ptr.len() != nrows + 1 {
         return Fault::Lists;
@@ -177,7 +204,8 @@ pub fn fault(
 // The first place at or after `from`, and before `to`, whose word is at least `word`, or `to`.
 pub fn lower(word_indices: &[u32], from: usize, to: usize, word: u32) -> usize
     requires { (from ≤ to) × (to ≤ length word_indices.now) × Rising word_indices.now from to }
-    ensures { Lower word_indices.now from to word result }
+    ensures place { result ≡ lower_in word_indices.now from to word }
+    ensures around { Lower word_indices.now from to word result }
 {
     let mut lo = from;
     let mut hi = to;
@@ -249,115 +277,73 @@ pub fn select(
     None
 }
 
-// Row `number` of a checked side: how many words it has.
-pub fn row_words(
-    nrows: usize,
-    ncols: usize,
-    row_word_ptr: &[u32],
-    word_indices: &[u32],
-    masks: &[u64],
-    number: usize,
-) -> u64
-    requires { IsSide nrows ncols row_word_ptr.now word_indices.now masks.now × (number < nrows) }
-    ensures { result ≡ length (words_of_row ncols (side_holds row_word_ptr.now word_indices.now masks.now number)) }
-{
-    let from = row_word_ptr[number] as usize;
-    let to = row_word_ptr[number + 1] as usize;
-    (to - from) as u64
-}
+impl Side<'_> {
+    ghost use Rattle.side.specs.Views.{pairs};
 
-// How many columns it has.
-pub fn row_popcount(
-    nrows: usize,
-    ncols: usize,
-    row_word_ptr: &[u32],
-    word_indices: &[u32],
-    masks: &[u64],
-    number: usize,
-) -> u64
-    requires { IsSide nrows ncols row_word_ptr.now word_indices.now masks.now × (number < nrows) }
-    ensures { result ≡ count_below ncols (side_holds row_word_ptr.now word_indices.now masks.now number) }
-{
-    let from = row_word_ptr[number] as usize;
-    let to = row_word_ptr[number + 1] as usize;
-    count_bits(masks, from, to) as u64
-}
-
-// Whether it has the column; past the end it has none.
-pub fn row_contains(
-    nrows: usize,
-    ncols: usize,
-    row_word_ptr: &[u32],
-    word_indices: &[u32],
-    masks: &[u64],
-    number: usize,
-    col: u64,
-) -> bool
-    requires { IsSide nrows ncols row_word_ptr.now word_indices.now masks.now × (number < nrows) }
-    ensures { result ≡ ltb col ncols && side_holds row_word_ptr.now word_indices.now masks.now number col }
-{
-    let from = row_word_ptr[number] as usize;
-    let to = row_word_ptr[number + 1] as usize;
-    if col >= ncols as u64 {
-        return false;
+    // Row `number` of a checked side: how many words it has.
+    pub fn row_words(self, number: usize) -> u64
+        requires { (number < self.nrows) }
+        ensures { result ≡ length (words_of_row self.entry.ncols (pairs self.entry number)) }
+    {
+        let from = self.row_word_ptr[number] as usize;
+        let to = self.row_word_ptr[number + 1] as usize;
+        (to - from) as u64
     }
-    contains(word_indices, masks, from, to, col as usize)
-}
 
-// How many of its columns lie below `col`.
-pub fn row_rank(
-    nrows: usize,
-    ncols: usize,
-    row_word_ptr: &[u32],
-    word_indices: &[u32],
-    masks: &[u64],
-    number: usize,
-    col: usize,
-) -> u64
-    requires { IsSide nrows ncols row_word_ptr.now word_indices.now masks.now × (number < nrows) × (col ≤ ncols) }
-    ensures { result ≡ count_below col (side_holds row_word_ptr.now word_indices.now masks.now number) }
-{
-    let from = row_word_ptr[number] as usize;
-    let to = row_word_ptr[number + 1] as usize;
-    rank(word_indices, masks, from, to, col) as u64
-}
-
-// Its column with that ordinal, from 0, or none.
-pub fn row_select(
-    nrows: usize,
-    ncols: usize,
-    row_word_ptr: &[u32],
-    word_indices: &[u32],
-    masks: &[u64],
-    number: usize,
-    ordinal: u64,
-) -> Option<usize>
-    requires { IsSide nrows ncols row_word_ptr.now word_indices.now masks.now × (number < nrows) }
-    ensures { result ≡ entry (members_below ncols (side_holds row_word_ptr.now word_indices.now masks.now number)) ordinal }
-{
-    let from = row_word_ptr[number] as usize;
-    let to = row_word_ptr[number + 1] as usize;
-    select(ncols, word_indices, masks, from, to, ordinal)
-}
-
-// Its word k, from 0, or none.
-pub fn row_word(
-    nrows: usize,
-    ncols: usize,
-    row_word_ptr: &[u32],
-    word_indices: &[u32],
-    masks: &[u64],
-    number: usize,
-    k: u64,
-) -> Option<AbtmTopologyWord>
-    requires { IsSide nrows ncols row_word_ptr.now word_indices.now masks.now × (number < nrows) }
-    ensures { result ≡ word_at ncols (side_holds row_word_ptr.now word_indices.now masks.now number) k }
-{
-    let from = row_word_ptr[number] as usize;
-    let to = row_word_ptr[number + 1] as usize;
-    if k >= (to - from) as u64 {
-        return None;
+    // How many columns it has.
+    pub fn row_popcount(self, number: usize) -> u64
+        requires { (number < self.nrows) }
+        ensures { result ≡ count_below self.entry.ncols (pairs self.entry number) }
+    {
+        let from = self.row_word_ptr[number] as usize;
+        let to = self.row_word_ptr[number + 1] as usize;
+        count_bits(self.masks, from, to) as u64
     }
-    let at = from + k as usize;
-    Some(AbtmTopologyWord::new(word_indices[at], masks[at]))
+
+    // Whether it has the column; past the end it has none.
+    pub fn row_contains(self, number: usize, col: u64) -> bool
+        requires { (number < self.nrows) }
+        ensures { result ≡ ltb col self.entry.ncols && pairs self.entry number col }
+    {
+        let from = self.row_word_ptr[number] as usize;
+        let to = self.row_word_ptr[number + 1] as usize;
+        if col >= self.ncols as u64 {
+            return false;
+        }
+        contains(self.word_indices, self.masks, from, to, col as usize)
+    }
+
+    // How many of its columns lie below `col`.
+    pub fn row_rank(self, number: usize, col: usize) -> u64
+        requires { (number < self.nrows) × (col ≤ self.ncols) }
+        ensures { result ≡ count_below col (pairs self.entry number) }
+    {
+        let from = self.row_word_ptr[number] as usize;
+        let to = self.row_word_ptr[number + 1] as usize;
+        rank(self.word_indices, self.masks, from, to, col) as u64
+    }
+
+    // Its column with that ordinal, from 0, or none.
+    pub fn row_select(self, number: usize, ordinal: u64) -> Option<usize>
+        requires { (number < self.nrows) }
+        ensures { result ≡ entry (members_below self.entry.ncols (pairs self.entry number)) ordinal }
+    {
+        let from = self.row_word_ptr[number] as usize;
+        let to = self.row_word_ptr[number + 1] as usize;
+        select(self.ncols, self.word_indices, self.masks, from, to, ordinal)
+    }
+
+    // Its word k, from 0, or none.
+    pub fn row_word(self, number: usize, k: u64) -> Option<AbtmTopologyWord>
+        requires { (number < self.nrows) }
+        ensures { result ≡ word_at self.entry.ncols (pairs self.entry number) k }
+    {
+        let from = self.row_word_ptr[number] as usize;
+        let to = self.row_word_ptr[number + 1] as usize;
+        if k >= (to - from) as u64 {
+            return None;
+        }
+        let at = from + k as usize;
+        Some(AbtmTopologyWord::new(self.word_indices[at], self.masks[at]))
+    }
 }

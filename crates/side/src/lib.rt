@@ -2,13 +2,24 @@
 // its faults told apart, and the work on its rows. The calls of the API stand in the crates above.
 #![tactic(auto)]
 
-ghost use Rattle.std.specs.Prelude.{◌≡◌};
+ghost use Rattle.std.specs.Prelude.{◌≡◌, IfOk};
 ghost use Rattle.side.specs.Check.{fault_check};
 
 use base::Refusal;
 use word::AbtmTopologyWord;
 
 pub mod inner;
+
+// A side as a caller lends it.
+#[derive(Clone, Copy)]
+pub struct AbtmTopology<'a> {
+    pub nrows: usize,
+    pub ncols: usize,
+    pub row_word_ptr: &'a [u32],
+    pub word_indices: &'a [u32],
+    pub masks: &'a [u64],
+    pub structural_nnz: usize,
+}
 
 // Where a bad word stands: its row, and its position in the list of words.
 #[derive(Clone, Copy)]
@@ -44,5 +55,17 @@ impl Fault {
             Fault::Word(_) => Err(Refusal::BadTopology),
             Fault::Disagree => Err(Refusal::BadTopology),
         }
+    }
+}
+
+impl AbtmTopology<'_> {
+    ghost use Rattle.side.specs.Views.{check_side, SoundSide};
+
+    pub fn validate(self) -> Result<(), Refusal>
+        ensures value { result ≡ check_side self.entry }
+        ensures accepted { IfOk result (λ t. SoundSide self.entry) }
+    {
+        self.check_limits()?;
+        self.fault().check()
     }
 }

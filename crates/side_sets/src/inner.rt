@@ -2,13 +2,15 @@
 ghost use Rattle.std.specs.Prelude.{◌≡◌, ◌+◌, ◌-◌, ◌≤◌, ◌<◌, length};
 ghost use Rattle.base.specs.Lists.{over, over_with_zeros};
 ghost use Rattle.word.specs.Answers.{on};
-ghost use Rattle.side.specs.Side.{side_ptr, side_words, side_masks, side_counts, row_holds, side_holds};
+ghost use Rattle.side.specs.Side.{side_ptr, side_words, side_masks, side_counts, row_holds};
 ghost use Rattle.side.specs.Check.{IsSide};
+ghost use Rattle.side.specs.Views.{pairs};
 ghost use Rattle.side.specs.Row.{NewRow};
 ghost use Rattle.side_sets.specs.Sets.{pairwise_pairs};
 ghost use Rattle.side_sets.specs.Merge.{OwnRow, Next, taken_at};
 
 use side::SideCounts;
+use side::inner::Side;
 use word::Operation;
 
 // A word's mask in a row, 0 where the row does not have it, and the place of the row's next word.
@@ -100,40 +102,35 @@ fn combine_row(
     to
 }
 
-// The side of the pairs under the operation. It needs as many words as both sides have together.
+// The side of the pairs under the operation. It needs as many words as both sides have together. Lists that are written are handed in one by one:
+// each has an equation, and in a struct behind `&mut` each contract would say besides that the references stay.
 pub fn combine(
-    nrows: usize,
-    ncols: usize,
-    ptr_a: &[u32],
-    words_a: &[u32],
-    masks_a: &[u64],
-    ptr_b: &[u32],
-    words_b: &[u32],
-    masks_b: &[u64],
+    a: Side,
+    b: Side,
     op: Operation,
     row_word_ptr: &mut [u32],
     word_indices: &mut [u32],
     masks: &mut [u64],
 ) -> SideCounts
-    requires { IsSide nrows ncols ptr_a.now words_a.now masks_a.now × IsSide nrows ncols ptr_b.now words_b.now masks_b.now × (nrows < length row_word_ptr.old) × (length masks_a.now + length masks_b.now ≤ length word_indices.old) × (length masks_a.now + length masks_b.now ≤ length masks.old) }
-    ensures value { result ≡ side_counts nrows ncols (pairwise_pairs (on op) (side_holds ptr_a.now words_a.now masks_a.now) (side_holds ptr_b.now words_b.now masks_b.now)) }
-    ensures pointers { row_word_ptr.new ≡ over (side_ptr nrows ncols (pairwise_pairs (on op) (side_holds ptr_a.now words_a.now masks_a.now) (side_holds ptr_b.now words_b.now masks_b.now))) row_word_ptr.old }
-    ensures words { word_indices.new ≡ over_with_zeros (side_words nrows ncols (pairwise_pairs (on op) (side_holds ptr_a.now words_a.now masks_a.now) (side_holds ptr_b.now words_b.now masks_b.now))) (length masks_a.now + length masks_b.now) word_indices.old }
-    ensures masked { masks.new ≡ over_with_zeros (side_masks nrows ncols (pairwise_pairs (on op) (side_holds ptr_a.now words_a.now masks_a.now) (side_holds ptr_b.now words_b.now masks_b.now))) (length masks_a.now + length masks_b.now) masks.old }
+    requires { IsSide a.nrows a.ncols b.row_word_ptr.now b.word_indices.now b.masks.now × (a.nrows < length row_word_ptr.old) × (length a.masks.now + length b.masks.now ≤ length word_indices.old) × (length a.masks.now + length b.masks.now ≤ length masks.old) }
+    ensures value { result ≡ side_counts a.entry.nrows a.entry.ncols (pairwise_pairs (on op) (pairs a.entry) (pairs b.entry)) }
+    ensures pointers { row_word_ptr.new ≡ over (side_ptr a.entry.nrows a.entry.ncols (pairwise_pairs (on op) (pairs a.entry) (pairs b.entry))) row_word_ptr.old }
+    ensures words { word_indices.new ≡ over_with_zeros (side_words a.entry.nrows a.entry.ncols (pairwise_pairs (on op) (pairs a.entry) (pairs b.entry))) (length a.entry.masks.now + length b.entry.masks.now) word_indices.old }
+    ensures masked { masks.new ≡ over_with_zeros (side_masks a.entry.nrows a.entry.ncols (pairwise_pairs (on op) (pairs a.entry) (pairs b.entry))) (length a.entry.masks.now + length b.entry.masks.now) masks.old }
 {
     row_word_ptr[0] = 0;
     let mut to: usize = 0;
     let mut pairs: u64 = 0;
-    for row in 0..nrows {
+    for row in 0..a.nrows {
         let end = combine_row(
-            words_a,
-            masks_a,
-            ptr_a[row] as usize,
-            ptr_a[row + 1] as usize,
-            words_b,
-            masks_b,
-            ptr_b[row] as usize,
-            ptr_b[row + 1] as usize,
+            a.word_indices,
+            a.masks,
+            a.row_word_ptr[row] as usize,
+            a.row_word_ptr[row + 1] as usize,
+            b.word_indices,
+            b.masks,
+            b.row_word_ptr[row] as usize,
+            b.row_word_ptr[row + 1] as usize,
             op,
             to,
             word_indices,
@@ -143,7 +140,7 @@ pub fn combine(
         row_word_ptr[row + 1] = end as u32;
         to = end;
     }
-    let needed = masks_a.len() + masks_b.len();
+    let needed = a.masks.len() + b.masks.len();
     word_indices[to..needed].fill(0);
     masks[to..needed].fill(0);
     SideCounts {

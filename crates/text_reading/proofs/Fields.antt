@@ -1,21 +1,22 @@
 -- Laws of lists in a text: the fields read one after the other, each into a lent list as far as that has room. Assumes nothing.
 use mathlib.Core.Path.{◌≡◌, refl, sym, ap, ap₂, ◌∙◌, subst}
-use mathlib.Core.Bool.{Bool, true, cond, ◌&&◌, and-true, and_assoc}
+use mathlib.Core.Bool.{Bool, true, false, cond, ◌&&◌, and-true, and_assoc}
 use mathlib.Core.List.{List, [], ◌∷◌, ◌++◌, map, append-nil}
 use mathlib.Core.Logic.{◌⊎◌, inl, inr}
 use Prim.Native.Nat.{ℕ, ◌+◌, ◌≤◌, ◌<◌}
 use native.Mathlib.Nat.{not-suc-le-zero}
 use native.Mathlib.Omega.{arith}
-use borrow.Author.Tests.{lt-leb}
 use lib.ListN.{length, get_or, set, take, drop, length-take, length-drop, length-map, length-set, drop_of_length-le}
 use lib.Seq.{take_all, take-nil, get_or-take, set_out}
-use Rattle.base.specs.Lists.{every, written, over}
+use Rattle.std.specs.Prelude.{Option, Some, None}
+use Rattle.std.specs.Bool.{then_some}
+use Rattle.base.specs.Lists.{every, is_in, written, over}
 use Rattle.base.proofs.Bools.{lt-or-le}
 use Rattle.base.proofs.Lists.{at_head, get_or-mapped, put_next, put-end}
 use Rattle.text_writing.specs.Text.{comma}
-use Rattle.text_reading.specs.Reading.{is_number, number_of, before, parts, fields, is_list, list_of}
+use Rattle.text_reading.specs.Reading.{is_number, number_of, before, behind, parts, fields, is_list, list_of, list_read}
 use Rattle.text_reading.proofs.Numbers.{number-within}
-use Rattle.text_reading.proofs.Parts.{before-within, parts_starting, parts_from}
+use Rattle.text_reading.proofs.Parts.{behind-shorter, parts_first}
 
 -- ---- the fields of a value
 
@@ -30,12 +31,11 @@ fields-some [] h = absurd (not-suc-le-zero h)
 fields-some (b ∷ v) h = refl
 
 pub list-none : {A : Type 0} (made : ℕ → A) (most : ℕ) (v : List ℕ) (old : List A) → length v ≡ 0
-    → (true ≡ is_list most v) × (0 ≡ length (fields v)) × (old ≡ over (take (length old) (map made (list_of most v))) old)
+    → (Some 0 ≡ list_read most v) × (old ≡ over (take (length old) (map made (list_of most v))) old)
 unfolding is_list list_of
 list-none {A = A} made most v old h =
     let e : fields v ≡ [] = fields-none v h in (
-      sym (ap (every (is_number most)) e),
-      sym (ap length e),
+      sym (ap (λ (l : List (List ℕ)). then_some (every (is_number most) l) (length (map (number_of most) l))) e),
       sym (ap (λ (l : List (List ℕ)). over (take (length old) (map made (map (number_of most) l))) old) e ∙ ap (λ (l : List A). over l old) (take-nil (length old))),
     )
 
@@ -62,12 +62,38 @@ kept_of made most bytes old = take (length old) (made_of made most bytes)
 pub length-made : {A : Type 0} (made : ℕ → A) (most : ℕ) (bytes : List ℕ) → length (made_of made most bytes) ≡ length (parts comma bytes)
 length-made made most bytes = length-map (map (number_of most) (parts comma bytes)) made ∙ length-map (parts comma bytes) (number_of most)
 
--- `count` of them are read, and the next one starts at `at`
-pub record Listing {A : Type 0} (made : ℕ → A) (most : ℕ) (bytes : List ℕ) (old list : List A) (good : Bool) (count at : ℕ) : Type 0 where
-  pub within : at ≤ length bytes + 1
-  pub few : count ≤ at
+-- the fields of what is left to read, and how long that is, its comma counted
+abbrev pub fields_left : Option (List ℕ) → List (List ℕ)
+fields_left None = []
+fields_left (Some p) = parts comma p
+
+abbrev pub left_length : Option (List ℕ) → ℕ
+left_length None = 0
+left_length (Some p) = length p + 1
+
+-- behind the first field
+abbrev pub behind_first : List ℕ → Option (List ℕ)
+behind_first p = then_some (is_in comma p) (behind comma p)
+
+first-field : (p : List ℕ) → parts comma p ≡ before comma p ∷ fields_left (behind_first p)
+first-field p = parts_first comma p ∙ ap (λ (l : List (List ℕ)). before comma p ∷ l) (go (is_in comma p))
+  where
+    go : (b : Bool) → cond b (parts comma (behind comma p)) [] ≡ fields_left (then_some b (behind comma p))
+    go true = refl
+    go false = refl
+
+pub left-shorter : (p : List ℕ) → left_length (behind_first p) < left_length (Some p)
+left-shorter p = go (is_in comma p) refl
+  where
+    go : (b : Bool) → is_in comma p ≡ b → left_length (then_some b (behind comma p)) < length p + 1
+    go true e = omega (arith, behind-shorter comma p e)
+    go false e = omega arith
+
+-- `count` of them are read
+pub record Listing {A : Type 0} (made : ℕ → A) (most : ℕ) (bytes : List ℕ) (old list : List A) (good : Bool) (count : ℕ) (rest : Option (List ℕ)) : Type 0 where
+  pub few : count + left_length rest ≤ length bytes + 1
   pub some : count ≤ length (parts comma bytes)
-  pub left : drop count (parts comma bytes) ≡ parts_starting comma at bytes
+  pub left : drop count (parts comma bytes) ≡ fields_left rest
   pub sofar : (good && every (is_number most) (drop count (parts comma bytes))) ≡ every (is_number most) (parts comma bytes)
   pub long : length list ≡ length old
   pub front : list ≡ written count (kept_of made most bytes old) old
@@ -82,15 +108,13 @@ module _ {A : Type 0} (made : ℕ → A) (most : ℕ) (bytes : List ℕ) (old : 
       let l : length (kept_of made most bytes old) ≤ k = omega (arith, kept-length) in
       ap₂ ◌++◌ (take_all k (kept_of made most bytes old) l) (drop_of_length-le old h) ∙ append-nil (kept_of made most bytes old)
 
-  module _ (list : List A) (good : Bool) (count at : ℕ) (s : Listing made most bytes old list good count at) where
+  module _ (list : List A) (good : Bool) (count : ℕ) where
     pub listing-turn :
-        at ≤ length bytes
-        → Listing made most bytes old (set list count (made (number_of most (before comma (drop at bytes))))) (good && is_number most (before comma (drop at bytes))) (count + 1)
-        (at + length (before comma (drop at bytes)) + 1)
-    listing-turn h =
+        (p : List ℕ) → Listing made most bytes old list good count (Some p)
+        → Listing made most bytes old (set list count (made (number_of most (before comma p)))) (good && is_number most (before comma p)) (count + 1) (behind_first p)
+    listing-turn p s =
         record {
-          within = omega (arith, before-within comma (drop at bytes), length-drop at bytes);
-          few = omega (arith, s.few);
+          few = omega (arith, s.few, left-shorter p);
           some = omega (arith, head.0);
           left = head.2;
           sofar = ahead;
@@ -99,13 +123,13 @@ module _ {A : Type 0} (made : ℕ → A) (most : ℕ) (bytes : List ℕ) (old : 
         }
       where
         field : List ℕ
-        field = before comma (drop at bytes)
+        field = before comma p
 
-        split : drop count (parts comma bytes) ≡ field ∷ parts_starting comma (at + length field + 1) bytes
-        split = s.left ∙ parts_from comma at bytes h
+        split : drop count (parts comma bytes) ≡ field ∷ fields_left (behind_first p)
+        split = s.left ∙ first-field p
 
-        head : (count < length (parts comma bytes)) × (field ≡ get_or (parts comma bytes) count []) × (drop (count + 1) (parts comma bytes) ≡ parts_starting comma (at + length field + 1) bytes)
-        head = at_head (parts comma bytes) count field (parts_starting comma (at + length field + 1) bytes) [] split
+        head : (count < length (parts comma bytes)) × (field ≡ get_or (parts comma bytes) count []) × (drop (count + 1) (parts comma bytes) ≡ fields_left (behind_first p))
+        head = at_head (parts comma bytes) count field (fields_left (behind_first p)) [] split
 
         ahead : (good && is_number most field && every (is_number most) (drop (count + 1) (parts comma bytes))) ≡ every (is_number most) (parts comma bytes)
         ahead =
@@ -130,23 +154,21 @@ module _ {A : Type 0} (made : ℕ → A) (most : ℕ) (bytes : List ℕ) (old : 
             set_out list count (made (number_of most field)) l ∙ s.front ∙ full count r ∙ sym (full (count + 1) n)
 
     pub listing-end :
-        length bytes < at → 0 < length bytes
-        → (good ≡ is_list most bytes) × (count ≡ length (fields bytes)) × (list ≡ over (take (length old) (map made (list_of most bytes))) old)
+        Listing made most bytes old list good count None → 0 < length bytes
+        → (then_some good count ≡ list_read most bytes) × (list ≡ over (take (length old) (map made (list_of most bytes))) old)
     unfolding is_list list_of
-    listing-end h p = (
-      sym (and-true good) ∙ ap (λ (l : List (List ℕ)). good && every (is_number most) l) (sym none) ∙ s.sofar ∙ ap (every (is_number most)) (sym all),
-      all_read ∙ ap length (sym all),
+    listing-end s p = (
+      ap₂ (λ (b : Bool) (n : ℕ). then_some b n)
+          (sym (and-true good) ∙ ap (λ (l : List (List ℕ)). good && every (is_number most) l) (sym s.left) ∙ s.sofar ∙ ap (every (is_number most)) (sym all))
+          (all_read ∙ ap length (sym all) ∙ sym (length-map (fields bytes) (number_of most))),
       whole (lt-or-le (length old) (length (parts comma bytes))) ∙ ap (λ (l : List (List ℕ)). over (take (length old) (map made (map (number_of most) l))) old) (sym all),
     )
       where
         all : fields bytes ≡ parts comma bytes
         all = fields-some bytes p
 
-        none : drop count (parts comma bytes) ≡ []
-        none = s.left ∙ ap (λ (b : Bool). cond b (parts comma (drop at bytes)) []) (lt-leb at (length bytes) h)
-
         all_read : count ≡ length (parts comma bytes)
-        all_read = omega (arith, s.some, ap length none, length-drop count (parts comma bytes))
+        all_read = omega (arith, s.some, ap length s.left, length-drop count (parts comma bytes))
 
         whole : (length old < length (parts comma bytes)) ⊎ (length (parts comma bytes) ≤ length old) → list ≡ over (kept_of made most bytes old) old
         whole (inl r) =

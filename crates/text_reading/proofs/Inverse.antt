@@ -16,7 +16,7 @@ use Rattle.base.proofs.Lists.{same-list, list_same}
 use Rattle.text_writing.specs.Text.{comma, newline, digit, digits_of, decimal, further, numbers, line}
 use Rattle.text_writing.proofs.Digits.{digits-one, digits_more, digits-some, decimal-one, decimal-more, decimal-some}
 use Rattle.text_reading.specs.Reading.{is_digit, value_from, leading_zero, is_number, number_of, before, behind, on_first, parts, fields, is_list, list_of, is_line, value_of}
-use Rattle.text_reading.proofs.Numbers.{value-append}
+use Rattle.text_reading.proofs.Numbers.{value_grows, value-append}
 use Rattle.text_reading.proofs.Fields.{fields-some}
 
 -- ---- digits
@@ -122,12 +122,6 @@ number-reads most n h u = (is, (a-number most (decimal n) is).value ∙ same)
         four (ltb 0 (length (decimal n))) (not (leading_zero (decimal n))) (every is_digit (decimal n)) (leb (value_from 0 (decimal n)) most)
         (lt-ltb 0 (length (decimal n)) (decimal-some n)) (ap not (decimal-plain n u)) (digits-all 20 n) (le-leb (value_from 0 (decimal n)) most (omega (arith, same)))
 
--- digits more never make the value smaller
-value-least : (v : ℕ) (ds : List ℕ) → v ≤ value_from v ds
-unfolding value_from
-value-least v [] = omega arith
-value-least v (d ∷ ds) = omega (arith, value-least (10 * v + (d - 48)) ds)
-
 -- digits behind a number that is not 0 are the digits of their value
 value-writes : (v : ℕ) (ds : List ℕ) → 0 < v → every is_digit ds ≡ true → value_from v ds < 10 ^ 20 → decimal (value_from v ds) ≡ decimal v ++ ds
 unfolding value_from
@@ -139,7 +133,7 @@ value-writes v (d ∷ ds) z h u =
     let w = 10 * v + (d - 48) in
     let tens : w / 10 ≡ v = omega arith in
     let ones : digit (w % 10) ≡ d = omega arith in
-    let fits : w < 10 ^ 20 = omega (arith, value-least w ds) in
+    let fits : w < 10 ^ 20 = omega (arith, value_grows w ds) in
     value-writes w ds (omega arith) (and_right (is_digit d) (every is_digit ds) h) u
     ∙ ap (λ (x : List ℕ). x ++ ds) (decimal-more w (omega arith) fits ∙ ap₂ (λ (a b : ℕ). decimal a ++ (b ∷ [])) tens ones)
     ∙ append_assoc (decimal v) (d ∷ []) ds

@@ -1,22 +1,20 @@
--- Laws of lines: where the value of the first line stands, whether it has its key and a newline, and where the next line starts. Assumes nothing.
+-- Laws of lines: whether the first one has its key, its value, and whether there is a text behind it. Assumes nothing.
 use mathlib.Core.Path.{◌≡◌, refl, sym, ap, ap₂, ◌∙◌}
 use mathlib.Core.Bool.{Bool, true, false, ◌&&◌}
 use mathlib.Core.List.{List, [], ◌∷◌}
 use mathlib.Core.Logic.{◌⊎◌, inl, inr}
-use Prim.Native.Nat.{ℕ, suc, ◌+◌, ◌-◌, ◌≤◌, ◌<◌, min}
-use native.Mathlib.Numerals.{add-one}
+use Prim.Native.Nat.{ℕ, ◌-◌, ◌≤◌, ◌<◌, min}
 use native.Mathlib.Omega.{arith}
-use borrow.Author.Tests.{lt-ltb, le-ltb}
-use lib.Dec.{ltb, eqb}
-use lib.ListN.{length, take, drop, drop_of_length-le}
+use lib.Dec.{eqb}
+use lib.ListN.{length, take, drop, length-drop, drop_of_length-le}
+use lib.Seq.{take_all}
+use Rattle.std.specs.Prelude.{Option, Some, None, is_some, option_map}
+use Rattle.std.specs.Option.{UnwrapsOrElse}
+use Rattle.std.specs.Bool.{then_some}
 use Rattle.std.specs.List.{starts_with}
 use Rattle.std.specs.Cmp.Lexicographic.{pointwise}
-use Rattle.base.specs.Lists.{is_in, same_list}
+use Rattle.base.specs.Lists.{same_list}
 use Rattle.base.proofs.Bools.{lt-or-le, eqb_swap}
-use Rattle.base.proofs.Lists.{part_slice}
-use Rattle.text_writing.specs.Text.{newline}
-use Rattle.text_reading.specs.Reading.{before, behind, is_line, value_of}
-use Rattle.text_reading.proofs.Parts.{before-within, take-before, behind-drop, in-before}
 
 -- the library's word for a text that begins with the key
 pub same_start : (t key : List ℕ) → starts_with eqb t key ≡ same_list (take (length key) t) key
@@ -29,42 +27,24 @@ same_start t key = same key (take (length key) t)
     same (x ∷ xs) [] = refl
     same (x ∷ xs) (y ∷ ys) = ap₂ ◌&&◌ (eqb_swap x y) (same xs ys)
 
--- the newline stands at `to`, or there is none and the text ends there
-module _ (key t : List ℕ) (to : ℕ) (e : to ≡ length (before newline t)) where
-  pub line-within : to ≤ length t
-  line-within = omega (arith, before-within newline t)
+-- a part from a place on, or from the end where that comes before it
+pub rest-from : (n from : ℕ) (l : List ℕ) → from ≡ min n (length l) → take (length l - from) (drop from l) ≡ drop n l
+rest-from n from l m = take_all (length l - from) (drop from l) (omega (arith, length-drop from l)) ∙ same (lt-or-le n (length l))
+  where
+    same : (n < length l) ⊎ (length l ≤ n) → drop from l ≡ drop n l
+    same (inl h) = let k : from ≡ n = omega arith in ap (λ (i : ℕ). drop i l) k
+    same (inr h) = let a : length l ≤ from = omega arith in drop_of_length-le l a ∙ sym (drop_of_length-le l h)
 
-  pub line-front : take to t ≡ before newline t
-  line-front = ap (λ (n : ℕ). take n t) e ∙ take-before newline t
+-- what is seen of a value that is there under a condition
+module _ {A B : Type 0} (f : A → B) where
+  pub seen-some : (o : Option A) (b : Bool) (x : B) → option_map f o ≡ then_some b x → is_some o ≡ b
+  seen-some None true x e = absurd cc
+  seen-some None false x e = refl
+  seen-some (Some y) true x e = refl
+  seen-some (Some y) false x e = absurd cc
 
-  pub line-value : (from : ℕ) → from ≡ min (length key) to → take (to - from) (drop from t) ≡ value_of key t
-  unfolding value_of
-  line-value from m = part_slice from to t ∙ ap (drop from) line-front ∙ same (lt-or-le (length key) to)
-    where
-      same : (length key < to) ⊎ (to ≤ length key) → drop from (before newline t) ≡ drop (length key) (before newline t)
-      same (inl h) = let k : from ≡ length key = omega arith in ap (λ (n : ℕ). drop n (before newline t)) k
-      same (inr h) =
-          let a : length (before newline t) ≤ from = omega arith in
-          let b : length (before newline t) ≤ length key = omega arith in
-          drop_of_length-le (before newline t) a ∙ sym (drop_of_length-le (before newline t) b)
-
-  pub line-found : to < length t → same_list (take (length key) (take to t)) key ≡ is_line key t
-  unfolding is_line
-  line-found h =
-      let there : is_in newline t ≡ true = in-before newline t ∙ ap (λ (n : ℕ). ltb n (length t)) (sym e) ∙ lt-ltb to (length t) h in
-      ap (λ (l : List ℕ). same_list (take (length key) l) key) line-front
-      ∙ ap (λ (b : Bool). b && same_list (take (length key) (before newline t)) key) (sym there)
-
-  pub line-missing : length t ≤ to → is_line key t ≡ false
-  unfolding is_line
-  line-missing h =
-      let gone : is_in newline t ≡ false = in-before newline t ∙ ap (λ (n : ℕ). ltb n (length t)) (sym e) ∙ le-ltb to (length t) h in
-      ap (λ (b : Bool). b && same_list (take (length key) (before newline t)) key) gone
-
-  pub next-found : drop (to + 1) t ≡ behind newline t
-  next-found = ap (λ (n : ℕ). drop n t) (add-one to ∙ ap suc e) ∙ sym (behind-drop newline t)
-
-  pub next-missing : length t ≤ to → drop to t ≡ behind newline t
-  next-missing h =
-      let a : length t ≤ suc (length (before newline t)) = omega arith in
-      drop_of_length-le t h ∙ sym (drop_of_length-le t a) ∙ sym (behind-drop newline t)
+  pub seen-or : (o : Option A) (b : Bool) (x d : B) (r : A) → option_map f o ≡ then_some b x → (b ≡ false → x ≡ d) → UnwrapsOrElse o (λ y. f y ≡ d) r → f r ≡ x
+  seen-or None true x d r e h u = absurd cc
+  seen-or None false x d r e h u = u ∙ sym (h refl)
+  seen-or (Some y) true x d r e h u = cc
+  seen-or (Some y) false x d r e h u = absurd cc

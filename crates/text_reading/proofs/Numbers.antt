@@ -1,5 +1,5 @@
 -- Laws of numbers: their digits one after the other, and what a number is once its first digit was looked at. Assumes nothing.
-use mathlib.Core.Path.{◌≡◌, refl, sym, ap, ap₂, ◌∙◌}
+use mathlib.Core.Path.{◌≡◌, refl, ap, ap₂, ◌∙◌}
 use mathlib.Core.Bool.{Bool, true, false, cond, not, ◌&&◌}
 use mathlib.Core.List.{List, [], ◌∷◌, ◌++◌}
 use Prim.Native.Nat.{ℕ, ◌+◌, ◌-◌, ◌*◌, ◌≤◌, ◌<◌}
@@ -10,9 +10,11 @@ use borrow.Author.Tests.{eq-eqb, ne_eqb, lt-ltb, le-ltb, leb-true}
 use lib.Dec.{eqb, ltb, leb}
 use lib.ListN.{length, get_or, take, drop, take-append-drop}
 use lib.Seq.{take-suc}
+use Rattle.std.specs.Prelude.{is_some, unwrap_or}
+use Rattle.std.specs.Bool.{then_some}
 use Rattle.base.specs.Lists.{every}
 use Rattle.base.proofs.Bools.{and_right}
-use Rattle.text_reading.specs.Reading.{is_digit, value_from, leading_zero, is_number, number_of}
+use Rattle.text_reading.specs.Reading.{is_digit, value_from, leading_zero, is_number, number_of, number_read}
 
 -- ---- the digits one after the other
 
@@ -65,10 +67,30 @@ unfolding leading_zero
 no_zero [] n = refl
 no_zero (d ∷ ds) n = ap (λ (t : Bool). t && ltb 0 (length ds)) (ne_eqb d 48 n)
 
--- which number: what was read where it is one, else 0
-pub number-of : (most : ℕ) (s : List ℕ) (good : Bool) → good ≡ is_number most s → number_of most s ≡ cond good (value_from 0 s) 0
-unfolding number_of
-number-of most s good e = ap (λ (t : Bool). cond t (value_from 0 s) 0) (sym e)
+-- whether there is one, and which, 0 where there is none
+module _ (most : ℕ) (s : List ℕ) where
+  pub number-some : is_some (number_read most s) ≡ is_number most s
+  number-some = go (is_number most s)
+    where
+      go : (b : Bool) → is_some (then_some b (number_of most s)) ≡ b
+      go true = refl
+      go false = refl
+
+  pub number-or : unwrap_or (number_read most s) 0 ≡ number_of most s
+  unfolding number_of
+  number-or = go (is_number most s)
+    where
+      go : (b : Bool) → unwrap_or (then_some b (cond b (value_from 0 s) 0)) 0 ≡ cond b (value_from 0 s) 0
+      go true = refl
+      go false = refl
+
+  pub number-is : then_some (is_number most s) (value_from 0 s) ≡ number_read most s
+  unfolding number_of
+  number-is = go (is_number most s)
+    where
+      go : (b : Bool) → then_some b (value_from 0 s) ≡ then_some b (cond b (value_from 0 s) 0)
+      go true = refl
+      go false = refl
 
 -- at most the most
 pub number-within : (most : ℕ) (s : List ℕ) → number_of most s ≤ most

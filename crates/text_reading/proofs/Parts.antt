@@ -1,17 +1,16 @@
--- Laws of the parts between bytes c: a search from the front, where the first part ends, and the parts one after the other. Assumes nothing.
-use mathlib.Core.Path.{◌≡◌, refl, sym, ap, ap₂, ◌∙◌}
+-- Laws of the parts between bytes c: a search from the front, where the first part ends, and what is behind it. Assumes nothing.
+use mathlib.Core.Path.{◌≡◌, refl, sym, ap, ◌∙◌}
 use mathlib.Core.Bool.{Bool, true, false, cond, not, ◌||◌}
 use mathlib.Core.List.{List, [], ◌∷◌}
-use Prim.Native.Nat.{ℕ, suc, ◌+◌, ◌≤◌, ◌<◌}
+use Prim.Native.Nat.{ℕ, suc, ◌+◌, ◌<◌}
 use native.Mathlib.Omega.{arith}
-use borrow.Author.Tests.{lt-ltb, le-ltb, le-leb, lt-leb}
-use mathlib.Core.Logic.{◌⊎◌, inl, inr}
-use lib.Dec.{eqb, ltb, leb, leb-suc-suc}
+use borrow.Author.Tests.{lt-ltb, ltb-true}
+use lib.Dec.{eqb, ltb, leb-suc-suc}
 use lib.ListN.{length, take, drop, length-drop}
-use lib.Seq.{drop-drop}
+use Rattle.std.specs.Prelude.{Option, Some, None}
 use Rattle.std.specs.List.{position_or_len}
 use Rattle.base.specs.Lists.{is_in}
-use Rattle.base.proofs.Bools.{lt-or-le}
+use Rattle.base.proofs.Bools.{both_ways}
 use Rattle.text_reading.specs.Reading.{before, behind, on_first, parts}
 
 -- ---- the first part, and what is behind it
@@ -26,15 +25,6 @@ module _ (c : ℕ) where
       go : (e : Bool) → length (before c t) ≡ position_or_len (λ b. eqb b c) t → length (cond e [] (b ∷ before c t)) ≡ cond (not e) (1 + position_or_len (λ b. eqb b c) t) 0
       go true ih = refl
       go false ih = omega (arith, ih)
-
-  pub before-within : (t : List ℕ) → length (before c t) ≤ length t
-  unfolding before
-  before-within [] = omega arith
-  before-within (b ∷ t) = go (eqb b c) (before-within t)
-    where
-      go : (e : Bool) → length (before c t) ≤ length t → length (cond e [] (b ∷ before c t)) ≤ suc (length t)
-      go true ih = omega arith
-      go false ih = omega arith
 
   pub take-before : (t : List ℕ) → take (length (before c t)) t ≡ before c t
   unfolding before
@@ -74,22 +64,46 @@ module _ (c : ℕ) where
       go true ih = refl
       go false ih = ap (on_first b) ih
 
--- the parts of what is left from `at` on, none past the end
-abbrev pub parts_starting : ℕ → ℕ → List ℕ → List (List ℕ)
-parts_starting c at t = cond (leb at (length t)) (parts c (drop at t)) []
+  -- without a c the first part is all, and nothing is behind it
+  pub before-all : (t : List ℕ) → is_in c t ≡ false → t ≡ before c t
+  unfolding before is_in
+  before-all [] h = refl
+  before-all (b ∷ t) h = go (eqb b c) (before-all t) h
+    where
+      go : (e : Bool) → (is_in c t ≡ false → t ≡ before c t) → (e || is_in c t) ≡ false → b ∷ t ≡ cond e [] (b ∷ before c t)
+      go true ih h = absurd (both_ways true refl h)
+      go false ih h = ap (λ (l : List ℕ). b ∷ l) (ih h)
 
-pub parts_from : (c at : ℕ) (t : List ℕ) → at ≤ length t → parts_starting c at t ≡ before c (drop at t) ∷ parts_starting c (at + length (before c (drop at t)) + 1) t
-parts_from c at t h =
-    ap (λ (b : Bool). cond b (parts c (drop at t)) []) (le-leb at (length t) h)
-    ∙ parts_first c (drop at t)
-    ∙ ap₂ (λ (b : Bool) (l : List ℕ). before c (drop at t) ∷ cond b (parts c l) []) (in-before c (drop at t) ∙ same (lt-or-le n (length (drop at t)))) (behind-drop c (drop at t) ∙ drop-drop (suc n) at t ∙ ap (λ (k : ℕ). drop k t) place)
-  where
-    n : ℕ
-    n = length (before c (drop at t))
+  pub behind-none : (t : List ℕ) → is_in c t ≡ false → behind c t ≡ []
+  unfolding behind is_in
+  behind-none [] h = refl
+  behind-none (b ∷ t) h = go (eqb b c) (behind-none t) h
+    where
+      go : (e : Bool) → (is_in c t ≡ false → behind c t ≡ []) → (e || is_in c t) ≡ false → cond e t (behind c t) ≡ []
+      go true ih h = absurd (both_ways true refl h)
+      go false ih h = ih h
 
-    place : at + suc n ≡ at + n + 1
-    place = omega arith
+  pub behind-shorter : (t : List ℕ) → is_in c t ≡ true → length (behind c t) < length t
+  behind-shorter t h = omega (arith, ap length (behind-drop t), length-drop (suc (length (before c t))) t, ltb-true (length (before c t)) (length t) (sym (in-before t) ∙ h))
 
-    same : (n < length (drop at t)) ⊎ (length (drop at t) ≤ n) → ltb n (length (drop at t)) ≡ leb (at + n + 1) (length t)
-    same (inl a) = lt-ltb n (length (drop at t)) a ∙ sym (le-leb (at + n + 1) (length t) (omega (arith, length-drop at t)))
-    same (inr a) = le-ltb n (length (drop at t)) a ∙ sym (lt-leb (at + n + 1) (length t) (omega (arith, length-drop at t)))
+  -- what a search for the first c finds
+  module _ (t : List ℕ) where
+    abbrev pub found_at : ℕ
+    found_at = position_or_len (λ b. eqb b c) t
+
+    there : ltb found_at (length t) ≡ is_in c t
+    there = ap (λ (k : ℕ). ltb k (length t)) (sym (length-before t)) ∙ sym (in-before t)
+
+    pub search-found : (n : ℕ) → ◌≡◌ {A = Option ℕ} (Some n) (cond (ltb found_at (length t)) (Some found_at) None) → (n ≡ length (before c t)) × (is_in c t ≡ true)
+    search-found n e = go (is_in c t) refl (e ∙ ap (λ (b : Bool). cond b (Some found_at) None) there)
+      where
+        go : (b : Bool) → is_in c t ≡ b → ◌≡◌ {A = Option ℕ} (Some n) (cond b (Some found_at) None) → (n ≡ length (before c t)) × (is_in c t ≡ true)
+        go true h e = (cc (e, length-before t), h)
+        go false h e = absurd cc
+
+    pub search-missing : ◌≡◌ {A = Option ℕ} None (cond (ltb found_at (length t)) (Some found_at) None) → is_in c t ≡ false
+    search-missing e = go (is_in c t) refl (e ∙ ap (λ (b : Bool). cond b (Some found_at) None) there)
+      where
+        go : (b : Bool) → is_in c t ≡ b → ◌≡◌ {A = Option ℕ} None (cond b (Some found_at) None) → is_in c t ≡ false
+        go true h e = absurd cc
+        go false h e = h

@@ -1,6 +1,8 @@
 -- What a text says, by document 01: numbers have no leading zero, and a larger one than the most is none; lists use commas, an empty list is an
 -- empty value; a line has its key and ends in a newline.
 use Rattle.std.specs.Prelude.{Bool, false, not, cond, ◌&&◌, List, [], ◌∷◌, map, ℕ, zero, suc, ◌+◌, ◌-◌, ◌*◌, eqb, leb, ltb, length, take, drop}
+use Rattle.std.specs.Prelude.{Option}
+use Rattle.std.specs.Bool.{then_some}
 use Rattle.base.specs.Lists.{every, is_in, same_list}
 use Rattle.text_writing.specs.Text.{comma, newline}
 
@@ -27,6 +29,10 @@ is_number most ds = ltb 0 (length ds) && not (leading_zero ds) && every is_digit
 -- which number, 0 where they are none
 unfoldable pub number_of : ℕ → List ℕ → ℕ
 number_of most ds = cond (is_number most ds) (value_from 0 ds) 0
+
+-- the number, if the bytes are one
+abbrev pub number_read : ℕ → List ℕ → Option ℕ
+number_read most ds = then_some (is_number most ds) (number_of most ds)
 
 -- ---- parts
 
@@ -64,6 +70,10 @@ is_list most v = every (is_number most) (fields v)
 unfoldable pub list_of : ℕ → List ℕ → List ℕ
 list_of most v = map (number_of most) (fields v)
 
+-- how many numbers, if the bytes are a list
+abbrev pub list_read : ℕ → List ℕ → Option ℕ
+list_read most v = then_some (is_list most v) (length (list_of most v))
+
 -- ---- a line
 
 -- the first line of the text has the key, '=' included, and a newline ends it
@@ -73,6 +83,14 @@ is_line key t = is_in newline t && same_list (take (length key) (before newline 
 -- its value
 unfoldable pub value_of : List ℕ → List ℕ → List ℕ
 value_of key t = drop (length key) (before newline t)
+
+-- the number of the first line, if it is a line of the key with one
+abbrev pub number_found : List ℕ → ℕ → List ℕ → Option ℕ
+number_found key most t = then_some (is_line key t && is_number most (value_of key t)) (number_of most (value_of key t))
+
+-- how many numbers its list has, if it is a line of the key with one
+abbrev pub list_found : List ℕ → ℕ → List ℕ → Option ℕ
+list_found key most t = then_some (is_line key t && is_list most (value_of key t)) (length (list_of most (value_of key t)))
 
 -- the text from line k on
 unfoldable pub from_line : ℕ → List ℕ → List ℕ

@@ -1,11 +1,10 @@
 // Reading of numbers, lists and lines. A list goes into a lent one as far as that has room, and is read to its end all the same.
-ghost use Rattle.std.specs.Prelude.{◌≡◌, ◌&&◌, cond, map, ℕ, ◌-◌, ◌≤◌, leb, length, set, take, drop};
+ghost use Rattle.std.specs.Prelude.{◌≡◌, ◌&&◌, cond, map, ℕ, ◌≤◌, leb, length, set, take, None, option_copied};
+ghost use Rattle.std.specs.Bool.{then_some};
 ghost use Rattle.std.proofs.Common.{rules};
-ghost use Rattle.base.specs.Lists.{every, over};
+ghost use Rattle.base.specs.Lists.{every, is_in, over};
 ghost use Rattle.text_writing.specs.Text.{newline};
-ghost use Rattle.text_reading.specs.Reading.{is_digit, value_from, is_number, number_of, before, behind, fields, is_list, list_of, is_line, value_of};
-
-use crate::{Line, ListLine, Listed, Number, NumberLine};
+ghost use Rattle.text_reading.specs.Reading.{is_digit, value_from, number_read, before, behind, list_of, list_read, is_line, value_of, number_found, list_found};
 
 // How wide the numbers of a list are: the most that one holds, and a number as one of them.
 pub trait Width {
@@ -50,56 +49,52 @@ impl Width for u64 {
     ghost digit = { Prim.search rules };
 }
 
-// How many bytes stand before the first such byte.
-fn find(bytes: &[u8], byte: u8) -> usize
-    ensures { result ≡ length (before byte bytes.now) }
+// The bytes before the first such byte, and those behind it where there is one.
+fn cut(bytes: &[u8], byte: u8) -> (&[u8], Option<&[u8]>)
+    ensures front { result.0.now ≡ before byte bytes.now }
+    ensures back { option_copied result.1 ≡ then_some (is_in byte bytes.now) (behind byte bytes.now) }
 {
-    bytes.iter().position(|b| *b == byte).unwrap_or(bytes.len())
+    match bytes.iter().position(|b| *b == byte) {
+        Some(n) => (&bytes[..n], Some(&bytes[n + 1..])),
+        None => (bytes, None),
+    }
 }
 
-// No number.
-const NONE: Number = Number {
-    good: false,
-    value: 0,
-};
-
 // The number of the digits, leading zeros let through. One past the most is told before it is made, so nothing wraps.
-fn read_digits(bytes: &[u8], most: u64) -> Number
+fn read_digits(bytes: &[u8], most: u64) -> Option<u64>
     requires { 9 ≤ most }
-    ensures good_value { result.good ≡ (every is_digit bytes.now && leb (value_from 0 bytes.now) most) }
-    ensures value_value { result.value ≡ cond result.good (value_from 0 bytes.now) 0 }
+    ensures { result ≡ then_some (every is_digit bytes.now && leb (value_from 0 bytes.now) most) (value_from 0 bytes.now) }
 {
     let mut value: u64 = 0;
     for b in bytes {
         if !b.is_ascii_digit() {
-            return NONE;
+            return None;
         }
         let digit = (*b - 48) as u64;
         if value > (most - digit) / 10 {
-            return NONE;
+            return None;
         }
         value = 10 * value + digit;
     }
-    Number { good: true, value }
+    Some(value)
 }
 
-pub fn read_number(bytes: &[u8], most: u64) -> Number
+pub fn read_number(bytes: &[u8], most: u64) -> Option<u64>
     requires { 9 ≤ most }
-    ensures good_value { result.good ≡ is_number most bytes.now }
-    ensures value_value { result.value ≡ number_of most bytes.now }
+    ensures { result ≡ number_read most bytes.now }
 {
     if bytes.len() == 0 {
-        return NONE;
+        return None;
     }
     if bytes[0] == 48 {
         if 1 < bytes.len() {
-            return NONE;
+            return None;
         }
     }
     read_digits(bytes, most)
 }
 
-// A store, where there is room.
+// A store, where there is room. `at` is where the one number goes, and not how far the list is filled.
 fn store<T: Drop>(list: &mut [T], at: usize, value: T)
     ensures { list.new ≡ set list.old at value }
 {
@@ -108,87 +103,81 @@ fn store<T: Drop>(list: &mut [T], at: usize, value: T)
     }
 }
 
-pub fn read_list<T: Width + Drop>(bytes: &[u8], list: &mut [T]) -> Listed
-    ensures good_value { result.good ≡ is_list T.MOST bytes.now }
-    ensures count_value { result.count ≡ length (fields bytes.now) }
+// How many numbers the list has. A field that is none is stored as 0.
+pub fn read_list<T: Width + Drop>(bytes: &[u8], list: &mut [T]) -> Option<usize>
+    ensures count { result ≡ list_read T.MOST bytes.now }
     ensures list_after { list.new ≡ over (take (length list.old) (map T.made (list_of T.MOST bytes.now))) list.old }
 {
     if bytes.len() == 0 {
-        return Listed {
-            good: true,
-            count: 0,
-        };
+        return Some(0);
     }
     let mut good = true;
     let mut count: usize = 0;
-    let mut at: usize = 0;
-    while at <= bytes.len() {
-        let end = at + find(&bytes[at..], 44);
-        let n = read_number(&bytes[at..end], T::MOST);
-        store(list, count, T::of(n.value));
-        good &= n.good;
+    let mut left = Some(bytes);
+    while let Some(part) = left {
+        let (field, behind) = cut(part, 44);
+        let number = read_number(field, T::MOST);
+        good &= number.is_some();
+        store(list, count, T::of(number.unwrap_or(0)));
         count += 1;
-        at = end + 1;
+        left = behind;
     }
-    Listed { good, count }
+    good.then_some(count)
 }
 
-// Where the value of the first line stands.
-fn read_line(text: &[u8], key: &[u8]) -> Line
-    ensures good_value { result.good ≡ is_line key.now text.now }
-    ensures from_le_to { (result.from ≤ result.to) × (result.to ≤ length text.now) }
-    ensures text_value { take (result.to - result.from) (drop result.from text.now) ≡ value_of key.now text.now }
-    ensures next_in_bounds { result.next ≤ length text.now }
-    ensures text_value_2 { drop result.next text.now ≡ behind newline text.now }
+// The first line: whether it has the key and a newline, and in either case its value and the text behind it, since all is read.
+#[derive(Clone, Copy)]
+struct Line<'a> {
+    good: bool,
+    value: &'a [u8],
+    rest: &'a [u8],
+}
+
+impl<'a> Line<'a> {
+    // What its value was read as, if the line is one, and the text behind it.
+    fn holding<T: Drop>(self, read: Option<T>) -> (Option<T>, &'a [u8])
+        ensures read { result.0 ≡ cond self.entry.good read None }
+        ensures rest { result.1.now ≡ self.entry.rest.now }
+    {
+        let held = if self.good { read } else { None };
+        (held, self.rest)
+    }
+}
+
+fn read_line<'a>(text: &'a [u8], key: &[u8]) -> Line<'a>
+    ensures good { result.good ≡ is_line key.now text.now }
+    ensures value { result.value.now ≡ value_of key.now text.now }
+    ensures rest { result.rest.now ≡ behind newline text.now }
 {
-    let to = find(text, 10);
-    let good = text[..to].starts_with(key);
-    let from = key.len().min(to);
-    if to < text.len() {
-        Line {
-            good,
-            from,
-            to,
-            next: to + 1,
-        }
-    } else {
-        Line {
-            good: false,
-            from,
-            to,
-            next: to,
-        }
+    let (line, rest) = cut(text, 10);
+    let from = key.len().min(line.len());
+    Line {
+        good: rest.is_some() & line.starts_with(key),
+        value: &line[from..],
+        rest: rest.unwrap_or_default(),
     }
 }
 
-pub fn number_line(text: &[u8], key: &[u8], most: u64) -> NumberLine
+// The number of the first line, if it is a line of the key with one, and the text behind it.
+pub fn number_line<'a>(text: &'a [u8], key: &[u8], most: u64) -> (Option<u64>, &'a [u8])
     requires { 9 ≤ most }
-    ensures good_value { result.good ≡ (is_line key.now text.now && is_number most (value_of key.now text.now)) }
-    ensures value_value { result.value ≡ number_of most (value_of key.now text.now) }
-    ensures next_in_bounds { result.next ≤ length text.now }
-    ensures text_value { drop result.next text.now ≡ behind newline text.now }
+    ensures number { result.0 ≡ number_found key.now most text.now }
+    ensures rest { result.1.now ≡ behind newline text.now }
 {
     let line = read_line(text, key);
-    let n = read_number(&text[line.from..line.to], most);
-    NumberLine {
-        good: line.good & n.good,
-        value: n.value,
-        next: line.next,
-    }
+    line.holding(read_number(line.value, most))
 }
 
-pub fn list_line<T: Width + Drop>(text: &[u8], key: &[u8], list: &mut [T]) -> ListLine
-    ensures good_value { result.good ≡ (is_line key.now text.now && is_list T.MOST (value_of key.now text.now)) }
-    ensures count_value { result.count ≡ length (list_of T.MOST (value_of key.now text.now)) }
-    ensures next_in_bounds { result.next ≤ length text.now }
-    ensures text_value { drop result.next text.now ≡ behind newline text.now }
+// How many numbers the list of the first line has, if it is a line of the key with one, and the text behind it.
+pub fn list_line<'a, T: Width + Drop>(
+    text: &'a [u8],
+    key: &[u8],
+    list: &mut [T],
+) -> (Option<usize>, &'a [u8])
+    ensures count { result.0 ≡ list_found key.now T.MOST text.now }
+    ensures rest { result.1.now ≡ behind newline text.now }
     ensures list_after { list.new ≡ over (take (length list.old) (map T.made (list_of T.MOST (value_of key.now text.now)))) list.old }
 {
     let line = read_line(text, key);
-    let l = read_list(&text[line.from..line.to], list);
-    ListLine {
-        good: line.good & l.good,
-        count: l.count,
-        next: line.next,
-    }
+    line.holding(read_list(line.value, list))
 }

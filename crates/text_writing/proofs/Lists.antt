@@ -9,7 +9,7 @@ use lib.Seq.{take-suc, set_at, length-take-le}
 use Rattle.std.specs.List.{sum_by}
 use Rattle.std.proofs.lemmas.List.Sums.{sum_by-cons}
 use Rattle.base.specs.Lists.{placed}
-use Rattle.base.proofs.Lists.{placed-more, placed-next}
+use Rattle.base.proofs.Lists.{placed-none, placed-length, placed-more, placed-next}
 use Rattle.text_writing.specs.Text.{comma, newline, decimal, further, numbers, line}
 use Rattle.text_writing.proofs.Digits.{decimal-most}
 
@@ -54,15 +54,19 @@ placed-ahead at X l v h =
     ∙ set_at (take at l) (get_or l at 0) (X ++ drop (at + 1 + length X) l) v at long
     ∙ ap (λ (k : ℕ). take at l ++ (v ∷ (X ++ drop k l))) e
 
--- and a byte between two parts
-pub placed-between : (at : ℕ) (X Y l : List ℕ) (v : ℕ) → at + length (X ++ (v ∷ Y)) ≤ length l
-    → placed (at + length X + 1) Y (set (placed at X l) (at + length X) v) ≡ placed at (X ++ (v ∷ Y)) l
-placed-between at X Y l v h =
-    let n : length (X ++ (v ∷ Y)) ≡ length X + suc (length Y) = length-append X (v ∷ Y) in
-    let here : at + length X + 1 ≡ at + length (X ++ (v ∷ [])) = omega (arith, length-append X (v ∷ [])) in
-    ap₂ (λ (i : ℕ) (b : List ℕ). placed i Y b) here (placed-next at X l v 0 (omega arith))
-    ∙ placed-more at (X ++ (v ∷ [])) Y l (omega (arith, length-append X (v ∷ [])))
-    ∙ ap (λ (t : List ℕ). placed at t l) (append_assoc X (v ∷ []) Y)
+-- ---- a text put behind another
+
+pub placed_one : (at : ℕ) (l : List ℕ) (v : ℕ) → at < length l → set l at v ≡ placed at (v ∷ []) l
+placed_one at l v h =
+    let e : at ≡ at + 0 = omega arith in
+    ap₂ (λ (x : List ℕ) (i : ℕ). set x i v) (sym (placed-none at l)) e ∙ placed-next at [] l v 0 (omega arith)
+
+module _ (at : ℕ) (X o : List ℕ) (h : at + length X ≤ length o) (l : List ℕ) (p : l ≡ placed at X o) where
+  pub put-long : length l ≡ length o
+  put-long = ap length p ∙ placed-length at X o h
+
+  pub put-behind : (Y m : List ℕ) (n : ℕ) → n ≡ at + length X → m ≡ placed n Y l → m ≡ placed at (X ++ Y) o
+  put-behind Y m n e q = q ∙ ap₂ (λ (i : ℕ) (x : List ℕ). placed i Y x) e p ∙ placed-more at X Y o h
 
 -- ---- lengths
 
@@ -109,13 +113,5 @@ pub length-line : (key value : List ℕ) → length (line key value) ≡ length 
 unfolding line
 length-line key value = length-append key (value ++ (newline ∷ [])) ∙ omega (arith, length-append value (newline ∷ []))
 
--- the key, the value behind it, the newline behind both
-pub line-put : (key value o : List ℕ) (at : ℕ) (l m : List ℕ) (from to : ℕ) → at + length (line key value) ≤ length o
-    → from ≡ at + length key → l ≡ placed at key o → to ≡ from + length value → m ≡ placed from value l → set m to newline ≡ placed at (line key value) o
-unfolding line
-line-put key value o at l m from to h e p f q =
-    let n : length (line key value) ≡ length key + length value + 1 = length-line key value in
-    let both : length (key ++ value) ≡ length key + length value = length-append key value in
-    let end : to ≡ at + length (key ++ value) = omega arith in
-    ap₂ (λ (x : List ℕ) (i : ℕ). set x i newline) (q ∙ ap₂ (λ (i : ℕ) (x : List ℕ). placed i value x) e p ∙ placed-more at key value o (omega arith)) end
-    ∙ placed-next at (key ++ value) o newline 0 (omega arith) ∙ ap (λ (x : List ℕ). placed at x o) (append_assoc key value (newline ∷ []))
+-- what decides how long a line is
+pub ruleset sums = (length-line)

@@ -1,5 +1,5 @@
-// Numbers, lists and lines as text: how long it is, and the text put into a lent list from a place on; what puts it answers the place behind it.
-ghost use Rattle.std.specs.Prelude.{◌≡◌, ℕ, ◌+◌, ◌≤◌, List, length};
+// Numbers, lists and lines as text: how long it is, and the text put into a lent list, behind what is written there.
+ghost use Rattle.std.specs.Prelude.{◌≡◌, ℕ, ◌+◌, ◌<◌, ◌≤◌, List, [], ◌∷◌, length};
 ghost use Rattle.base.specs.Lists.{placed};
 ghost use Rattle.text_writing.specs.Text.{decimal, numbers, line};
 
@@ -21,23 +21,31 @@ pub fn list_length(list: &[u32]) -> usize
     digits + list.len().saturating_sub(1)
 }
 
-// What a value is as text.
+// A lent list of bytes, and how many of them are written.
+#[derive(Drop)]
+pub struct Output<'a> {
+    pub bytes: &'a mut [u8],
+    pub len: usize,
+}
+
+// What a value is as text, and the text put behind what is written.
 pub trait Text {
     ghost text: { Self → List ℕ };
 
-    fn put(self, out: &mut [u8], at: usize) -> usize
-        requires { at + length (text self) ≤ length out.old }
-        ensures value { result ≡ at + length (text self) }
-        ensures out_after { out.new ≡ placed at (text self) out.old };
+    fn put(self, out: &mut Output<'_>)
+        requires { out.old.len + length (text self) ≤ length out.old.bytes.now }
+        ensures len { out.new.len ≡ out.old.len + length (text self) }
+        ensures bytes { out.new.bytes.now ≡ placed out.old.len (text self) out.old.bytes.now }
+        ensures same_reference { out.new.bytes.ghost_name ≡ out.old.bytes.ghost_name };
 }
 
 impl Text for &[u8] {
     ghost text = { λ bytes. bytes.now };
 
-    fn put(self, out: &mut [u8], at: usize) -> usize {
-        let end = at + self.len();
-        out[at..end].copy_from_slice(self);
-        end
+    fn put(self, out: &mut Output<'_>) {
+        let end = out.len + self.len();
+        out.bytes[out.len..end].copy_from_slice(self);
+        out.len = end;
     }
 }
 
@@ -45,43 +53,55 @@ impl Text for u64 {
     ghost text = { decimal };
 
     // The last digit first, from the end down.
-    fn put(self, out: &mut [u8], at: usize) -> usize {
-        let end = at + decimal_length(self);
+    fn put(self, out: &mut Output<'_>) {
+        let end = out.len + decimal_length(self);
         let mut left = self;
         let mut place = end - 1;
         while left >= 10 {
-            out[place] = (48 + left % 10) as u8;
+            out.bytes[place] = (48 + left % 10) as u8;
             left /= 10;
             place -= 1;
         }
-        out[place] = (48 + left) as u8;
-        end
+        out.bytes[place] = (48 + left) as u8;
+        out.len = end;
     }
 }
 
 impl Text for &[u32] {
     ghost text = { λ list. numbers list.now };
 
-    fn put(self, out: &mut [u8], at: usize) -> usize {
+    fn put(self, out: &mut Output<'_>) {
         let Some((first, rest)) = self.split_first() else {
-            return at;
+            return;
         };
-        let mut place = (*first as u64).put(out, at);
+        (*first as u64).put(out);
         for x in rest {
-            out[place] = 44;
-            place = (*x as u64).put(out, place + 1);
+            put_byte(44, out);
+            (*x as u64).put(out);
         }
-        place
     }
 }
 
-pub fn put_line<T: Text>(key: &[u8], value: T, out: &mut [u8], at: usize) -> usize
-    requires { at + length (line key.now (T.text value)) ≤ length out.old }
-    ensures value { result ≡ at + length (line key.now (T.text value)) }
-    ensures out_after { out.new ≡ placed at (line key.now (T.text value)) out.old }
+#[tactic(auto, using(crate::proofs::Lists::placed_one))]
+fn put_byte(byte: u8, out: &mut Output<'_>)
+    requires { out.old.len < length out.old.bytes.now }
+    ensures len { out.new.len ≡ out.old.len + 1 }
+    ensures bytes { out.new.bytes.now ≡ placed out.old.len (byte ∷ []) out.old.bytes.now }
+    ensures same_reference { out.new.bytes.ghost_name ≡ out.old.bytes.ghost_name }
 {
-    let from = key.put(out, at);
-    let end = value.put(out, from);
-    out[end] = 10;
-    end + 1
+    out.bytes[out.len] = byte;
+    out.len += 1;
+}
+
+#[tactic(auto, using(crate::proofs::Lists::sums))]
+pub fn put_line<T: Text>(key: &[u8], value: T, out: &mut Output<'_>)
+    requires { out.old.len + length (line key.now (T.text value)) ≤ length out.old.bytes.now }
+    ensures len { out.new.len ≡ out.old.len + length (line key.now (T.text value)) }
+    ensures bytes { out.new.bytes.now ≡ placed out.old.len (line key.now (T.text value)) out.old.bytes.now }
+    ensures room { length out.new.bytes.now ≡ length out.old.bytes.now }
+    ensures same_reference { out.new.bytes.ghost_name ≡ out.old.bytes.ghost_name }
+{
+    key.put(out);
+    value.put(out);
+    put_byte(10, out);
 }

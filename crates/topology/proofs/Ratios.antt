@@ -22,3 +22,5 @@ ratio-some a b n = sym (ap (λ (t : Bool). cond t (of_bits binary64 0) (div bina
 pub exact : (n : ℕ) → n < 2 ^ 32 → to_unsigned 32 (of_int binary64 (pos n)) ≡ n
 unfolding in_float
 exact n h = (unsigned_back binary64 32 n (le→leb n (2 ^ 53) (omega arith)) h).1
+
+pub ruleset ratios = (ratio-none, ratio-some)

@@ -2,15 +2,13 @@
 use mathlib.Core.Path.{◌≡◌}
 use Rattle.std.specs.Prelude.{Ok}
 use mathlib.Core.List.{List}
-use Prim.Native.Nat.{ℕ, ◌+◌, ◌^◌, ◌≤◌, ◌<◌}
-use borrow.Author.Tests.{eqb-true}
+use Prim.Native.Nat.{ℕ, ◌+◌, ◌≤◌, ◌<◌}
 use lib.Ieee.{Float}
-use lib.ListN.{length, get_or}
-use Rattle.base.proofs.Checks.{both-passed, passed}
+use lib.ListN.{length}
+use Rattle.base.proofs.Checks.{both-passed}
 use Rattle.csr32.specs.Matrix.{IsMatrix}
 use Rattle.csr32.proofs.Matrix.{accepted}
-use Rattle.side.specs.Check.{IsSide}
-use Rattle.side.proofs.Accepted.{accepted-side, side-as, room-passed}
+use Rattle.side.proofs.Accepted.{room-passed}
 use Rattle.topology.specs.Answers.{build_check, sets_check}
 
 pub build-passed : (nrows ncols : ℕ) (ptr cols : List ℕ) (values : List Float) (optr oidx omasks : List ℕ) → build_check nrows ncols ptr cols values optr oidx omasks ≡ Ok tt
@@ -22,17 +20,12 @@ build-passed nrows ncols ptr cols values optr oidx omasks e =
     ((accepted nrows ncols ptr cols values q.0).matrix, r.0, r.1, r.2)
 
 pub sets-passed : (nrows ncols : ℕ) (ptr idx masks : List ℕ) (pairs nrows2 ncols2 : ℕ) (ptr2 idx2 masks2 : List ℕ) (pairs2 : ℕ) (optr oidx omasks : List ℕ)
-    → ((k : ℕ) → get_or masks k 0 < 2 ^ 64) → ((k : ℕ) → get_or masks2 k 0 < 2 ^ 64) → sets_check nrows ncols ptr idx masks pairs nrows2 ncols2 ptr2 idx2 masks2 pairs2 optr oidx omasks ≡ Ok tt
-    → IsSide nrows ncols ptr idx masks × IsSide nrows ncols ptr2 idx2 masks2 × (nrows < length optr) × (length masks + length masks2 ≤ length oidx) × (length masks + length masks2 ≤ length omasks)
+    → sets_check nrows ncols ptr idx masks pairs nrows2 ncols2 ptr2 idx2 masks2 pairs2 optr oidx omasks ≡ Ok tt
+    → (nrows < length optr) × (length masks + length masks2 ≤ length oidx) × (length masks + length masks2 ≤ length omasks)
 unfolding sets_check
-sets-passed nrows ncols ptr idx masks pairs nrows2 ncols2 ptr2 idx2 masks2 pairs2 optr oidx omasks fits fits2 e =
+sets-passed nrows ncols ptr idx masks pairs nrows2 ncols2 ptr2 idx2 masks2 pairs2 optr oidx omasks e =
     let e1 = both-passed _ _ e in
     let e2 = both-passed _ _ e1.1 in
     let e3 = both-passed _ _ e2.1 in
     let e4 = both-passed _ _ e3.1 in
-    let a : nrows2 ≡ nrows = eqb-true nrows2 nrows (passed _ _ e3.0) in
-    let b : ncols2 ≡ ncols = eqb-true ncols2 ncols (passed _ _ e4.0) in
-    let r = room-passed nrows (length masks + length masks2) (length optr) (length oidx) (length omasks) e4.1 in
-    let m = accepted-side nrows ncols ptr idx masks pairs fits e1.0 in
-    let m2 = accepted-side nrows2 ncols2 ptr2 idx2 masks2 pairs2 fits2 e2.0 in
-    (m.0, side-as nrows2 ncols2 nrows ncols ptr2 idx2 masks2 a b m2.0, r.0, r.1, r.2)
+    room-passed nrows (length masks + length masks2) (length optr) (length oidx) (length omasks) e4.1

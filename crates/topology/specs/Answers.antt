@@ -4,7 +4,7 @@ use Rattle.std.specs.Prelude.{Result}
 use Rattle.base.specs.Checks.{Check, answer}
 use Rattle.base.specs.declared.Refusal.{Refusal}
 use Rattle.base.specs.declared.Refusal.TheVariants.{SidesDiffer}
-use Rattle.base.specs.Checks.{must, ◌then◌, after}
+use Rattle.base.specs.Checks.{must, ◌then◌}
 use Rattle.csr32.specs.Matrix.{matrix_check}
 use Rattle.side.specs.Side.{side_counts}
 use Rattle.side.specs.Check.{side_check, side_room}

@@ -1,2 +1,3 @@
 pub mod Statistics
 pub mod Answers
+pub mod Views

@@ -16,7 +16,7 @@ fn last_class(count: usize) -> u64
     (count.div_ceil(20480).next_power_of_two() - 1) as u64
 }
 
-// The first block of the class that repeats a key, by a table of N slots: the homes are up to `last_slot`, the rest is room after them.
+// The first block of the class that repeats a key, by a table of N slots: the homes are up to `last_slot`, the rest is room after them. An array: no heap.
 fn first_in_table<const N: usize>(
     keys: Keys,
     last_class: u64,

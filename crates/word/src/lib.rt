@@ -9,7 +9,7 @@ ghost use Rattle.word.specs.Answers.{contains_answer, rank_answer, select_answer
 
 use base::Refusal;
 
-// An operation on two words, bit by bit.
+// An operation on two words, bit by bit. Which of the four it is, a caller says as data: a closure in its place would be no plainer.
 #[derive(Clone, Copy)]
 pub enum Operation {
     Union,

@@ -1,19 +1,18 @@
 -- `claims::run_growths` meets its contract. Assumes nothing.
 use mathlib.Core.Path.{◌≡◌, sym, ap, ◌∙◌}
 use Rattle.std.specs.Prelude.{Ok}
-use Rattle.base.specs.Checks.{Check, answer}
+use Rattle.base.specs.Checks.{Check}
 use Rattle.base.proofs.Checks.{handed}
 use Rattle.base.proofs.Checks.{on-accepted, on-refused, kept}
-use Rattle.csr32.specs.Matrix.{matrix_check, stored}
-use Rattle.side.specs.Side.{side_holds}
-use Rattle.dual_topology.specs.Check.{topology_check}
-use Rattle.graph.specs.Network.{Network, plain_network}
+use Rattle.csr32.specs.Views.{stores}
+use Rattle.side.specs.Views.{holds}
+use Rattle.dual_topology.specs.Views.{check_topology}
+use Rattle.graph.specs.Network.{Network}
+use Rattle.region.specs.Views.{plain}
 use Rattle.claims.specs.Demand.{System}
 use Rattle.growths.specs.Counts.{seeds_after, region_once_grown, frontier_once_grown, scratch_once_grown}
-use Rattle.claims.specs.Cutting.{system_of}
-use Rattle.claims.specs.Run.{square_topology, arrays_check, run_check}
+use Rattle.claims.specs.Views.{lent_run, lent_system}
 use Rattle.growths.specs.declared.Ran.{Ran}
-use Rattle.claims.specs.Run.{with_cut, without_cut}
 use Rattle.std.specs.Prelude.{Err}
 use Rattle.claims.proofs.Checking.{accepted-sides, accepted-arrays, accepted-run}
 use Rattle.claims.proofs.Finishing.{planned-after, gathered-after, answer-after}
@@ -21,14 +20,13 @@ use Rattle.claims.proofs.run_growths.Goals.{In_ok-check_run, Start}
 use Rattle.claims.proofs.run_growths.Goals as goal
 
 abbrev check : Start → Check
-check s = run_check (matrix_check s.args.matrix_nrows s.args.matrix_ncols s.args.row_ptr.now s.args.col_idx.now s.args.values.now) (square_topology (topology_check s.args.nrows s.args.ncols s.args.row_word_ptr.now s.args.row_word_indices.now s.args.row_masks.now s.args.structural_nnz s.args.column_nrows s.args.column_ncols s.args.column_word_ptr.now s.args.column_word_indices.now s.args.column_masks.now s.args.column_structural_nnz) s.args.nrows s.args.ncols s.args.matrix_nrows s.args.matrix_ncols) (arrays_check s.args.nrows s.args.len s.args.seeds.now (side_holds s.args.row_word_ptr.now s.args.row_word_indices.now s.args.row_masks.now) (stored s.args.row_ptr.now s.args.col_idx.now) s.args.hops.now s.args.rooms.now)
+check s = lent_run s.args.topology s.args.matrix s.args.len s.args.seeds.now s.args.hops.now s.args.rooms.now
 
 abbrev network : Start → Network
-network s = plain_network s.args.nrows (side_holds s.args.row_word_ptr.now s.args.row_word_indices.now s.args.row_masks.now)
+network s = plain s.args.topology
 
 abbrev system : Start → System
-system s =
-    system_of s.args.nrows s.args.row_ptr.now s.args.col_idx.now s.args.values.now s.args.row_word_ptr.now s.args.row_word_indices.now s.args.row_masks.now s.args.structural_nnz s.args.column_word_ptr.now s.args.column_word_indices.now s.args.column_masks.now s.args.column_structural_nnz s.args.len s.args.seeds.now
+system s = lent_system s.args.topology s.args.matrix s.args.len s.args.seeds.now
 
 -- in this arm the checks accepted
 ok : (c : In_ok-check_run) → check (goal.at.In_ok-check_run c).Start ≡ Ok tt
@@ -37,8 +35,8 @@ ok c = sym c.check_run.ensures ∙ c.in_ok-check_run.was
 pub grow_list-ran-requires : goal.grow_list-ran-requires
 grow_list-ran-requires c =
     let a = accepted-run _ _ _ (ok (goal.at.grow_list-ran-requires c).In_ok-check_run) in
-    let b = accepted-sides (topology_check c.args.nrows c.args.ncols c.args.row_word_ptr.now c.args.row_word_indices.now c.args.row_masks.now c.args.structural_nnz c.args.column_nrows c.args.column_ncols c.args.column_word_ptr.now c.args.column_word_indices.now c.args.column_masks.now c.args.column_structural_nnz) c.args.nrows c.args.ncols c.args.matrix_nrows c.args.matrix_ncols a.1 in
-    let d = accepted-arrays c.args.nrows c.args.len c.args.seeds.now (side_holds c.args.row_word_ptr.now c.args.row_word_indices.now c.args.row_masks.now) (stored c.args.row_ptr.now c.args.col_idx.now) c.args.hops.now c.args.rooms.now a.2 in
+    let b = accepted-sides (check_topology c.args.topology) c.args.topology.rows.nrows c.args.topology.rows.ncols c.args.matrix.nrows c.args.matrix.ncols a.1 in
+    let d = accepted-arrays c.args.topology.rows.nrows c.args.len c.args.seeds.now (holds c.args.topology.rows) (stores c.args.matrix) c.args.hops.now c.args.rooms.now a.2 in
     (b.topology_ok, b.square, d.mask, d.one_each)
 
 pub returns-in_err-check_run : goal.returns-in_err-check_run

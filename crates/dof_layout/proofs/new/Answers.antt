@@ -14,22 +14,22 @@ use Rattle.dof_layout.proofs.new.Goals.{In_ok-check}
 use Rattle.dof_layout.proofs.new.Goals as goal
 
 -- in this arm the blocks are accepted
-ok : (c : In_ok-check) → blocks_check c.args.entity_kinds.now c.args.entity_ids.now c.args.field_ids.now c.args.components.now ≡ Ok tt
+ok : (c : In_ok-check) → blocks_check c.args.blocks.entity_kinds.now c.args.blocks.entity_ids.now c.args.blocks.field_ids.now c.args.blocks.components.now ≡ Ok tt
 ok c = sym c.check.ensures ∙ c.in_ok-check.was
 
-blocks : (c : In_ok-check) → AreBlocks c.args.entity_kinds.now c.args.entity_ids.now c.args.field_ids.now c.args.components.now
+blocks : (c : In_ok-check) → AreBlocks c.args.blocks.entity_kinds.now c.args.blocks.entity_ids.now c.args.blocks.field_ids.now c.args.blocks.components.now
 blocks c = accepted-blocks _ _ _ _ (ok c)
 
-pub returns-then-out-entity_kinds : goal.returns-then-out-entity_kinds
+pub returns-then-out-blocks : goal.returns-then-out-blocks
 unfolding new_check
-returns-then-out-entity_kinds c =
-    let e = sym (group-pass _ _ _ (ok (goal.at.returns-then-out-entity_kinds c).In_ok-check) (last-stop _ _ _ (lt-leb (suc (length c.args.entity_kinds.now)) (length c.args.out.now) (omega (arith, c.if-out-entity_kinds.true))) refl)) in record {
+returns-then-out-blocks c =
+    let e = sym (group-pass _ _ _ (ok (goal.at.returns-then-out-blocks c).In_ok-check) (last-stop _ _ _ (lt-leb (suc (length c.args.blocks.entity_kinds.now)) (length c.args.out.now) (omega (arith, c.if-out-blocks.true))) refl)) in record {
       value = on-refused _ _ _ Err e;
       out_after = kept _ _ _ _ e;
     }
 
 pub write_offsets-requires : goal.write_offsets-requires
-write_offsets-requires c = (omega (arith, (blocks (goal.at.write_offsets-requires c).In_ok-check).short), omega (arith, (blocks (goal.at.write_offsets-requires c).In_ok-check).components_length, c.if-out-entity_kinds.false))
+write_offsets-requires c = (omega (arith, (blocks (goal.at.write_offsets-requires c).In_ok-check).short), omega (arith, (blocks (goal.at.write_offsets-requires c).In_ok-check).components_length, c.if-out-blocks.false))
 
 pub returns-in_err-check : goal.returns-in_err-check
 unfolding new_check
@@ -42,7 +42,7 @@ returns-in_err-check c =
 pub returns : goal.returns
 unfolding new_check
 returns c =
-    let e = sym (group-pass _ _ _ (ok (goal.at.returns c).In_ok-check) (last-pass _ _ _ (le-leb (suc (length c.args.entity_kinds.now)) (length c.args.out.now) (omega (arith, c.if-out-entity_kinds.false))) refl)) in record {
+    let e = sym (group-pass _ _ _ (ok (goal.at.returns c).In_ok-check) (last-pass _ _ _ (le-leb (suc (length c.args.blocks.entity_kinds.now)) (length c.args.out.now) (omega (arith, c.if-out-blocks.false))) refl)) in record {
       value = on-accepted _ _ _ _ e (ap Ok c.write_offsets.ensures.value);
       out_after = on-accepted _ _ _ _ e c.write_offsets.ensures.out_after;
     }

@@ -7,10 +7,13 @@ use Rattle.base.proofs.Checks.{kept}
 use Rattle.dual_topology.proofs.Built.{build-passed}
 use Rattle.dual_topology.proofs.from_csr32.Goals as goal
 
+pub invariant_of-build : goal.invariant_of-build
+invariant_of-build c = record { accepted = (build-passed _ _ _ _ _ _ _ _ _ _ _ _ _ (sym c.check_build.ensures ∙ c.in_ok-check_build.was)).0 }
+
 pub build-requires : goal.build-requires
 build-requires c =
     let p = build-passed _ _ _ _ _ _ _ _ _ _ _ _ _ (sym c.check_build.ensures ∙ c.in_ok-check_build.was) in
-    record { matrix = p.0; room = p.1 }
+    record { room = p.1 }
 
 pub returns-in_err-check_build : goal.returns-in_err-check_build
 returns-in_err-check_build c =

@@ -5,4 +5,4 @@ use Rattle.mask.proofs.set.Goals as goal
 
 pub returns-in_err-check-clause-value : goal.returns-in_err-check-clause-value
 unfolding set_check
-returns-in_err-check-clause-value c = handed _ _ c.from_residual.ensures.1 ∙ group-stop _ _ _ (sym c.check.ensures ∙ c.in_err-check.was)
+returns-in_err-check-clause-value c = handed _ _ c.from_residual.ensures.1 ∙ group-stop _ _ _ (sym c.check.ensures.value ∙ c.in_err-check.was)

@@ -1,28 +1,24 @@
 -- `prepared_field_region::prepare_region` meets its contract. Assumes nothing.
-use mathlib.Core.Path.{◌≡◌, sym, ap, ◌∙◌}
+use mathlib.Core.Path.{◌≡◌, refl, sym, ap, ◌∙◌}
 use Rattle.std.specs.Prelude.{Ok, Err}
-use Rattle.base.specs.Checks.{Check}
-use Rattle.base.proofs.Checks.{handed}
-use native.Mathlib.Omega.{arith}
 use lib.ListN.{length}
-use Rattle.base.proofs.Checks.{on-accepted, on-refused, kept, group-pass, group-stop}
-use Rattle.csr32.specs.Matrix.{matrix_check}
-use Rattle.dof_layout.specs.Answers.{square_check}
-use Rattle.prepared_field_region.specs.Prepared.{prepare_room, prepare_inputs, prepare_check}
-use Rattle.cutting.specs.Steps.{Inputs}
-use Rattle.prepared_field_region.proofs.Accepted.{accepted-inputs, accepted-room}
+use Rattle.base.specs.Checks.{Check}
+use Rattle.base.proofs.Checks.{handed, on-accepted, on-refused, kept, group-pass, group-stop}
+use Rattle.prepared_field_region.specs.Prepared.{prepare_room, prepare_check}
+use Rattle.prepared_field_region.specs.Views.{check_lent, check_prepare}
+use Rattle.prepared_field_region.proofs.Accepted.{accepted-room}
 use Rattle.prepared_field_region.proofs.prepare_region.Goals.{In_ok-check_inputs, In_ok-check_room, Start}
 use Rattle.prepared_field_region.proofs.prepare_region.Goals as goal
 
 -- the checks, and all but 25
 abbrev inputs : Start → Check
-inputs s = prepare_inputs (matrix_check s.args.nrows s.args.ncols s.args.row_ptr.now s.args.col_idx.now s.args.values.now) (square_check s.args.entity_kinds.now s.args.entity_ids.now s.args.field_ids.now s.args.components.now s.args.offsets.now s.args.nrows s.args.ncols) s.args.nrows s.args.len s.args.words.now
+inputs s = check_lent s.args.matrix s.args.layout s.args.seeds
 
 abbrev room : Start → Check
-room s = prepare_room s.args.nrows s.args.ncols (length s.args.col_idx.now) (length s.args.row_word_ptr.now) (length s.args.row_word_indices.now) (length s.args.row_masks.now) (length s.args.column_word_ptr.now) (length s.args.column_word_indices.now) (length s.args.column_masks.now) (length s.args.starts.now) (length s.args.order.now) (length s.args.region.now) (length s.args.frontier.now) (length s.args.scratch.now) (length s.args.global_nodes.now) (length s.args.local_row_ptr.now) (length s.args.local_col_idx.now) (length s.args.source_ptr.now) (length s.args.source_indices.now)
+room s = prepare_room s.args.matrix.nrows s.args.matrix.ncols (length s.args.matrix.col_idx.now) (length s.args.row_word_ptr.now) (length s.args.row_word_indices.now) (length s.args.row_masks.now) (length s.args.column_word_ptr.now) (length s.args.column_word_indices.now) (length s.args.column_masks.now) (length s.args.starts.now) (length s.args.order.now) (length s.args.region.now) (length s.args.frontier.now) (length s.args.scratch.now) (length s.args.global_nodes.now) (length s.args.local_row_ptr.now) (length s.args.local_col_idx.now) (length s.args.source_ptr.now) (length s.args.source_indices.now)
 
 abbrev whole : Start → Check
-whole s = prepare_check (inputs s) (room s)
+whole s = check_prepare s.args.matrix s.args.layout s.args.seeds s.args.row_word_ptr.now s.args.row_word_indices.now s.args.row_masks.now s.args.column_word_ptr.now s.args.column_word_indices.now s.args.column_masks.now s.args.starts.now s.args.order.now s.args.region.now s.args.frontier.now s.args.scratch.now s.args.global_nodes.now s.args.local_row_ptr.now s.args.local_col_idx.now s.args.source_ptr.now s.args.source_indices.now
 
 -- in this arm the inputs are accepted
 module _ (c : In_ok-check_inputs) where
@@ -30,10 +26,7 @@ module _ (c : In_ok-check_inputs) where
   s = (goal.at.In_ok-check_inputs c).Start
 
   passes : inputs s ≡ Ok tt
-  passes = sym c.check_inputs.ensures ∙ c.in_ok-check_inputs.was
-
-  good : Inputs s.args.nrows s.args.row_ptr.now s.args.col_idx.now s.args.components.now s.args.offsets.now s.args.words.now × (s.args.ncols ≡ s.args.nrows)
-  good = accepted-inputs s.args.nrows s.args.ncols s.args.row_ptr.now s.args.col_idx.now s.args.values.now s.args.entity_kinds.now s.args.entity_ids.now s.args.field_ids.now s.args.components.now s.args.offsets.now s.args.len s.args.words.now (λ k. omega (arith, c.type_inv.words k)) passes
+  passes = sym c.check_inputs.ensures.value ∙ c.in_ok-check_inputs.was
 
 -- and here the lists reach their needed lengths
 module _ (c : In_ok-check_room) where
@@ -48,12 +41,13 @@ module _ (c : In_ok-check_room) where
   all = sym (group-pass _ _ _ (passes (goal.at.In_ok-check_room c).In_ok-check_inputs) (sym enough))
 
 pub check_room-requires : goal.check_room-requires
-check_room-requires c = (good ((goal.at.check_room-requires c).In_ok-check_inputs)).0.matrix.few_rows
+check_room-requires c = c.in_ok-check_inputs.ensures.accepted.system.matrix.few_rows
 
 pub prepare-requires : goal.prepare-requires
 prepare-requires c =
-    let p = accepted-room c.args.nrows c.args.ncols (length c.args.col_idx.now) c.args.row_word_ptr.now c.args.row_word_indices.now c.args.row_masks.now c.args.column_word_ptr.now c.args.column_word_indices.now c.args.column_masks.now c.args.starts.now c.args.order.now c.args.region.now c.args.frontier.now c.args.scratch.now c.args.global_nodes.now c.args.local_row_ptr.now c.args.local_col_idx.now c.args.source_ptr.now c.args.source_indices.now (enough (goal.at.prepare-requires c).In_ok-check_room) in record {
-      inputs = good (goal.at.prepare-requires c).In_ok-check_inputs;
+    let k = c.in_ok-check_inputs.ensures.accepted.system in
+    let p = accepted-room c.args.matrix.nrows c.args.matrix.ncols (length c.args.matrix.col_idx.now) c.args.row_word_ptr.now c.args.row_word_indices.now c.args.row_masks.now c.args.column_word_ptr.now c.args.column_word_indices.now c.args.column_masks.now c.args.starts.now c.args.order.now c.args.region.now c.args.frontier.now c.args.scratch.now c.args.global_nodes.now c.args.local_row_ptr.now c.args.local_col_idx.now c.args.source_ptr.now c.args.source_indices.now (enough (goal.at.prepare-requires c).In_ok-check_room) in record {
+      sizes = (k.square, k.sized, refl);
       building = p.0;
       room = p.1;
     }
@@ -61,7 +55,7 @@ prepare-requires c =
 pub returns-in_err-check_inputs : goal.returns-in_err-check_inputs
 unfolding prepare_check
 returns-in_err-check_inputs c =
-    let e : whole (goal.at.returns-in_err-check_inputs c).Start ≡ Err _ = sym (group-stop _ (room (goal.at.returns-in_err-check_inputs c).Start) _ (sym c.check_inputs.ensures ∙ c.in_err-check_inputs.was)) in record {
+    let e : whole (goal.at.returns-in_err-check_inputs c).Start ≡ Err _ = sym (group-stop _ (room (goal.at.returns-in_err-check_inputs c).Start) _ (sym c.check_inputs.ensures.value ∙ c.in_err-check_inputs.was)) in record {
       value = handed _ _ c.from_residual.ensures.1 ∙ on-refused _ _ _ Err e;
       row_pointers = kept _ _ _ _ e;
       row_words = kept _ _ _ _ e;
@@ -104,54 +98,6 @@ returns-in_err-check_room c =
       source_pointers = kept _ _ _ _ e;
       sources = kept _ _ _ _ e;
     }
-
-pub shape_of-row_word_ptr : goal.shape_of-row_word_ptr
-shape_of-row_word_ptr c = c.prepare.auto.row_word_ptr
-
-pub shape_of-row_word_indices : goal.shape_of-row_word_indices
-shape_of-row_word_indices c = c.prepare.auto.row_word_indices
-
-pub shape_of-row_masks : goal.shape_of-row_masks
-shape_of-row_masks c = c.prepare.auto.row_masks
-
-pub shape_of-column_word_ptr : goal.shape_of-column_word_ptr
-shape_of-column_word_ptr c = c.prepare.auto.column_word_ptr
-
-pub shape_of-column_word_indices : goal.shape_of-column_word_indices
-shape_of-column_word_indices c = c.prepare.auto.column_word_indices
-
-pub shape_of-column_masks : goal.shape_of-column_masks
-shape_of-column_masks c = c.prepare.auto.column_masks
-
-pub shape_of-starts : goal.shape_of-starts
-shape_of-starts c = c.prepare.auto.starts
-
-pub shape_of-order : goal.shape_of-order
-shape_of-order c = c.prepare.auto.order
-
-pub shape_of-region : goal.shape_of-region
-shape_of-region c = c.prepare.auto.region
-
-pub shape_of-frontier : goal.shape_of-frontier
-shape_of-frontier c = c.prepare.auto.frontier
-
-pub shape_of-scratch : goal.shape_of-scratch
-shape_of-scratch c = c.prepare.auto.scratch
-
-pub shape_of-global_nodes : goal.shape_of-global_nodes
-shape_of-global_nodes c = c.prepare.auto.global_nodes
-
-pub shape_of-local_row_ptr : goal.shape_of-local_row_ptr
-shape_of-local_row_ptr c = c.prepare.auto.local_row_ptr
-
-pub shape_of-local_col_idx : goal.shape_of-local_col_idx
-shape_of-local_col_idx c = c.prepare.auto.local_col_idx
-
-pub shape_of-source_ptr : goal.shape_of-source_ptr
-shape_of-source_ptr c = c.prepare.auto.source_ptr
-
-pub shape_of-source_indices : goal.shape_of-source_indices
-shape_of-source_indices c = c.prepare.auto.source_indices
 
 pub returns : goal.returns
 returns c =

@@ -7,11 +7,13 @@ use Rattle.topology.proofs.Rooms.{sets-passed}
 use Rattle.topology.proofs.combine.Goals as goal
 
 pub combine-requires : goal.combine-requires
-combine-requires c = sets-passed _ _ _ _ _ _ _ _ _ _ _ _ _ _ _ (λ k. (c.type_inv.masks_a k).fits) (λ k. (c.type_inv.masks_b k).fits) (sym c.check_sets.ensures ∙ c.in_ok-check_sets.was)
+combine-requires c =
+    let p = sets-passed _ _ _ _ _ _ _ _ _ _ _ _ _ _ _ (sym c.check_sets.ensures.value ∙ c.in_ok-check_sets.was) in
+    (c.in_ok-check_sets.ensures.accepted.1, p.0, p.1, p.2)
 
 pub returns-in_err-check_sets : goal.returns-in_err-check_sets
 returns-in_err-check_sets c =
-    let e = sym c.check_sets.ensures ∙ c.in_err-check_sets.was in record {
+    let e = sym c.check_sets.ensures.value ∙ c.in_err-check_sets.was in record {
       value = handed _ _ c.from_residual.ensures.1 ∙ on-refused _ _ _ Err e;
       pointers = kept _ _ _ _ e;
       words = kept _ _ _ _ e;
@@ -20,7 +22,7 @@ returns-in_err-check_sets c =
 
 pub returns : goal.returns
 returns c =
-    let e = sym c.check_sets.ensures ∙ c.in_ok-check_sets.was in
+    let e = sym c.check_sets.ensures.value ∙ c.in_ok-check_sets.was in
     let b = c.combine.ensures in record {
       value = on-accepted _ _ _ _ e (ap Ok b.value);
       pointers = on-accepted _ _ _ _ e b.pointers;

@@ -6,8 +6,11 @@ use Rattle.base.proofs.Checks.{on-accepted, on-refused, kept}
 use Rattle.topology.proofs.Rooms.{build-passed}
 use Rattle.topology.proofs.from_csr32.Goals as goal
 
+pub invariant_of-build_side : goal.invariant_of-build_side
+invariant_of-build_side c = record { accepted = (build-passed _ _ _ _ _ _ _ _ (sym c.check_build.ensures ∙ c.in_ok-check_build.was)).0 }
+
 pub build_side-requires : goal.build_side-requires
-build_side-requires c = build-passed _ _ _ _ _ _ _ _ (sym c.check_build.ensures ∙ c.in_ok-check_build.was)
+build_side-requires c = let p = build-passed _ _ _ _ _ _ _ _ (sym c.check_build.ensures ∙ c.in_ok-check_build.was) in (p.1, p.2, p.3)
 
 pub returns-in_err-check_build : goal.returns-in_err-check_build
 returns-in_err-check_build c =

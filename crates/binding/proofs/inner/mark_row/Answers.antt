@@ -14,9 +14,6 @@ use Rattle.mask.proofs.Stores.{put_in}
 use Rattle.binding.proofs.inner.mark_row.Goals.{else-pairs-gt0, then-pairs-gt0}
 use Rattle.binding.proofs.inner.mark_row.Goals as goal
 
-pub offset_bounds-paired-r : goal.offset_bounds-paired-r
-offset_bounds-paired-r c = omega (arith, c.requires.0.short, c.requires.1)
-
 pub bounds-paired-r : goal.bounds-paired-r
 bounds-paired-r c = omega (arith, is-length _ _ c.requires.0, c.requires.1)
 

@@ -1,7 +1,6 @@
 -- `claims::inner::finish` meets its contract. Assumes nothing.
 use mathlib.Core.Path.{ap, ◌∙◌}
-use Rattle.claims.specs.Run.{with_cut, without_cut}
-use Rattle.std.specs.Prelude.{Err}
+use Rattle.claims.specs.Run.{with_cut}
 use Rattle.growths.proofs.Growing.{grown-none, grown-some}
 use Rattle.claims.proofs.inner.finish.Goals as goal
 

@@ -1,5 +1,5 @@
 -- `cutting::inner::cut` meets its contract. Assumes nothing.
-use mathlib.Core.Path.{◌≡◌, refl, sym, ap, ap₂, ◌∙◌, subst}
+use mathlib.Core.Path.{◌≡◌, sym, ap, ap₂, ◌∙◌, subst}
 use mathlib.Core.Bool.{Bool}
 use mathlib.Core.List.{List}
 use Prim.Native.Nat.{ℕ, ◌+◌, ◌≤◌}
@@ -9,22 +9,29 @@ use lib.Seq.{length-take-le}
 use Rattle.base.specs.Lists.{over, over_with_zeros}
 use Rattle.base.specs.Sets.{members_below}
 use Rattle.base.proofs.Lists.{over-own}
-use Rattle.csr32.specs.Matrix.{stored}
+use Rattle.csr32.specs.Matrix.{stored, IsMatrix}
 use Rattle.mask.specs.Mask.{in_mask, words_needed}
 use Rattle.mask.proofs.Masks.{mask-as}
-use Rattle.side.specs.Side.{side_holds}
-use Rattle.dual_topology.specs.Check.{IsTopology}
 use Rattle.graph.specs.Network.{Network, field_network, region_words, frontier_words}
 use Rattle.growth.proofs.Lent.{region-length, region_is}
 use Rattle.field_region.specs.Growth.{field_stats}
+use Rattle.side.specs.Side.{side_holds}
 use Rattle.field_region.specs.declared.FieldAwareRegionStats.{FieldAwareRegionStats}
 use Rattle.pattern.specs.Pattern.{pattern_ptr, pattern_columns}
 use Rattle.gather.specs.Plan.{plan_sources, plan_ptr}
-use Rattle.cutting.specs.Cut.{network_of, lists_of}
+use Rattle.cutting.specs.Cut.{lists_of}
+use Rattle.cutting.specs.Views.{network}
 use Rattle.cutting.specs.Steps.{local_stats}
 use Rattle.cutting.specs.declared.LocalStats.{LocalStats}
 use Rattle.cutting.proofs.inner.cut.Goals.{After-words_for-need, Start}
 use Rattle.cutting.proofs.inner.cut.Goals as goal
+
+-- the struct of what was built
+pub invariant_of-prepared-2 : goal.invariant_of-prepared-2
+invariant_of-prepared-2 c = record {
+  square = subst (λ (k : ℕ). IsMatrix c.args.matrix.nrows k c.args.matrix.row_ptr.now c.args.matrix.col_idx.now) c.requires.sizes.0 c.args.matrix.accepted;
+  own = c.requires.topology.1;
+}
 
 -- the region that was grown, and the part of its list that holds it
 module _ (c : After-words_for-need) where
@@ -32,7 +39,7 @@ module _ (c : After-words_for-need) where
   t = (goal.at.After-words_for-need c).Start
 
   abbrev grown : Network
-  grown = field_network t.args.components.now (side_holds t.args.row_word_ptr.now t.args.row_word_indices.now t.args.row_masks.now)
+  grown = field_network t.args.layout.components.now (side_holds t.args.row_word_ptr.now t.args.row_word_indices.now t.args.row_masks.now)
 
   abbrev lent : List ℕ
   lent = c.grow-growth.new.region
@@ -40,21 +47,11 @@ module _ (c : After-words_for-need) where
   fits : c.words_for-need.result ≤ length lent
   fits = omega (arith, c.words_for-need.ensures, t.requires.room.0.inside, c.grow-growth.auto.region)
 
-  own : take c.words_for-need.result lent ≡ region_words grown t.args.seeds.now t.args.hops
-  own = ap (take c.words_for-need.result) c.grow-growth.ensures.inside ∙ over-own _ _ _ (region-length grown t.args.seeds.now t.args.hops ∙ sym (c.words_for-need.ensures ∙ ap words_needed t.requires.inputs.side))
+  own : take c.words_for-need.result lent ≡ region_words grown t.args.seeds.words.now t.args.hops
+  own = ap (take c.words_for-need.result) c.grow-growth.ensures.inside ∙ over-own _ _ _ (region-length grown t.args.seeds.words.now t.args.hops ∙ sym (c.words_for-need.ensures ∙ ap words_needed t.requires.sizes.1))
 
-  same : take c.words_for-need.result lent ≡ region_words (network_of t.args.row_ptr.now t.args.col_idx.now t.args.components.now) t.args.seeds.now t.args.hops
-  same = own ∙ ap (λ (p : ℕ → ℕ → Bool). region_words (field_network t.args.components.now p) t.args.seeds.now t.args.hops) t.requires.topology.1
-
-pub grow-growth-requires : goal.grow-growth-requires
-grow-growth-requires c =
-    let i = c.requires.inputs in
-    let f = c.requires.room.0 in
-    let w = ap words_needed i.side in
-    (i.side, subst (λ (k : ℕ). IsTopology k k c.args.row_word_ptr.now c.args.row_word_indices.now c.args.row_masks.now c.args.column_word_ptr.now c.args.column_word_indices.now c.args.column_masks.now) i.side c.requires.topology.0, i.running, i.filled, mask-as _ _ _ _ (sym i.side) refl i.mask, omega (arith, w, f.inside), omega (arith, w, f.edge), omega (arith, w, f.spent))
-
-pub words_for-need-requires : goal.words_for-need-requires
-words_for-need-requires c = c.requires.inputs.matrix.few_rows
+  same : take c.words_for-need.result lent ≡ region_words (network t.args.matrix t.args.layout) t.args.seeds.words.now t.args.hops
+  same = own ∙ ap (λ (p : ℕ → ℕ → Bool). region_words (field_network t.args.layout.components.now p) t.args.seeds.words.now t.args.hops) t.requires.topology.1
 
 pub slice_bounds-plan-end : goal.slice_bounds-plan-end
 slice_bounds-plan-end c = fits ((goal.at.slice_bounds-plan-end c).After-words_for-need)
@@ -64,25 +61,27 @@ slice_bounds-plan-end-2 c = sym (length-take-le _ _ (fits (goal.at.slice_bounds-
 
 pub plan-local-requires : goal.plan-local-requires
 plan-local-requires c =
-    let i = c.requires.inputs in
-    record { inputs = (c.requires.topology.0.rows, i.matrix, mask-as _ _ _ _ i.side (own (goal.at.plan-local-requires c).After-words_for-need) (region_is (grown (goal.at.plan-local-requires c).After-words_for-need) _ _ (omega (arith, i.side, i.matrix.few_rows))), c.requires.topology.1); fits = c.requires.room.1 }
-
-pub shape_of-region : goal.shape_of-region
-shape_of-region c = c.grow-growth.auto.region
+    let sized = c.requires.sizes.1 in
+    record { mask = mask-as _ _ _ _ sized (own (goal.at.plan-local-requires c).After-words_for-need) (region_is (grown (goal.at.plan-local-requires c).After-words_for-need) _ _ c.args.layout.few); fits = c.requires.room.1 }
 
 pub returns : goal.returns
 returns c =
     let e = same (goal.at.returns c).After-words_for-need in
     let r = c.grow-growth.ensures in
     let l = c.plan-local.ensures in
-    let is = c.requires.topology.1 in record {
-      value = ap₂ (λ (x : FieldAwareRegionStats) (y : LocalStats). record { growth = x; local = y }) (r.value ∙ ap (λ (t : ℕ → ℕ → Bool). field_stats (field_network c.args.components.now t) c.args.seeds.now c.args.hops) is) (l.value ∙ ap (λ (w : List ℕ). local_stats c.args.n (in_mask w) c.args.row_ptr.now c.args.col_idx.now) e);
-      inside = r.inside ∙ ap (λ (t : ℕ → ℕ → Bool). over (region_words (field_network c.args.components.now t) c.args.seeds.now c.args.hops) c.args.region.now) is;
-      edge = r.edge ∙ ap (λ (t : ℕ → ℕ → Bool). over (frontier_words (field_network c.args.components.now t) c.args.seeds.now c.args.hops) c.args.frontier.now) is;
+    let is = c.requires.topology.1 in
+    let n = c.args.matrix.nrows in
+    let ptr = c.args.matrix.row_ptr.now in
+    let cols = c.args.matrix.col_idx.now in
+    let components = c.args.layout.components.now in
+    let seeds = c.args.seeds.words.now in record {
+      value = ap₂ (λ (x : FieldAwareRegionStats) (y : LocalStats). record { growth = x; local = y }) (r.value ∙ ap (λ (t : ℕ → ℕ → Bool). field_stats (field_network components t) seeds c.args.hops) is) (l.value ∙ ap (λ (w : List ℕ). local_stats n (in_mask w) ptr cols) e);
+      inside = r.inside ∙ ap (λ (t : ℕ → ℕ → Bool). over (region_words (field_network components t) seeds c.args.hops) c.args.region.now) is;
+      edge = r.edge ∙ ap (λ (t : ℕ → ℕ → Bool). over (frontier_words (field_network components t) seeds c.args.hops) c.args.frontier.now) is;
       spent = r.spent;
-      members = l.members ∙ ap (λ (w : List ℕ). over_with_zeros (members_below c.args.n (in_mask w)) c.args.n c.args.global_nodes.now) e;
-      pointers = l.pointers ∙ ap (λ (w : List ℕ). over_with_zeros (pattern_ptr c.args.n (in_mask w) (stored c.args.row_ptr.now c.args.col_idx.now)) (c.args.n + 1) c.args.local_row_ptr.now) e;
-      columns = l.columns ∙ ap (λ (w : List ℕ). over_with_zeros (pattern_columns c.args.n (in_mask w) (stored c.args.row_ptr.now c.args.col_idx.now)) (length c.args.col_idx.now) c.args.local_col_idx.now) e;
-      source_pointers = l.source_pointers ∙ ap (λ (w : List ℕ). over_with_zeros (plan_ptr (lists_of c.args.n (in_mask w) c.args.row_ptr.now c.args.col_idx.now)) (length c.args.col_idx.now + 1) c.args.source_ptr.now) e;
-      sources = l.sources ∙ ap (λ (w : List ℕ). over_with_zeros (plan_sources (lists_of c.args.n (in_mask w) c.args.row_ptr.now c.args.col_idx.now)) (length c.args.col_idx.now) c.args.source_indices.now) e;
+      members = l.members ∙ ap (λ (w : List ℕ). over_with_zeros (members_below n (in_mask w)) n c.args.global_nodes.now) e;
+      pointers = l.pointers ∙ ap (λ (w : List ℕ). over_with_zeros (pattern_ptr n (in_mask w) (stored ptr cols)) (n + 1) c.args.local_row_ptr.now) e;
+      columns = l.columns ∙ ap (λ (w : List ℕ). over_with_zeros (pattern_columns n (in_mask w) (stored ptr cols)) (length cols) c.args.local_col_idx.now) e;
+      source_pointers = l.source_pointers ∙ ap (λ (w : List ℕ). over_with_zeros (plan_ptr (lists_of n (in_mask w) ptr cols)) (length cols + 1) c.args.source_ptr.now) e;
+      sources = l.sources ∙ ap (λ (w : List ℕ). over_with_zeros (plan_sources (lists_of n (in_mask w) ptr cols)) (length cols) c.args.source_indices.now) e;
     }

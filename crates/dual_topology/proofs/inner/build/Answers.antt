@@ -4,10 +4,10 @@ use Rattle.side.specs.declared.SideCounts.{SideCounts}
 use Rattle.dual_topology.proofs.inner.build.Goals as goal
 
 pub build_side-rows-requires : goal.build_side-rows-requires
-build_side-rows-requires c = (c.requires.matrix, c.requires.room.0, c.requires.room.1, c.requires.room.2)
+build_side-rows-requires c = (c.requires.room.0, c.requires.room.1, c.requires.room.2)
 
 pub build_columns-columns-requires : goal.build_columns-columns-requires
-build_columns-columns-requires c = let p = c.requires in (p.matrix, p.room.3, p.room.4, p.room.5, p.room.6, p.room.7)
+build_columns-columns-requires c = let p = c.requires in (p.room.3, p.room.4, p.room.5, p.room.6, p.room.7)
 
 pub returns : goal.returns
 returns c =

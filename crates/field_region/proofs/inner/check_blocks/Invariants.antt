@@ -7,6 +7,6 @@ use Rattle.field_region.proofs.inner.check_blocks.Given as goal
 
 abbrev pub invariant-loop-b : goal.invariant-loop-b
 invariant-loop-b l = record {
-  pointers : length l.offsets ≡ suc (length l.components);
-  accepted : checks_below l.b (owner_check l.components l.dof_owners l.ranks) ≡ Ok tt;
+  pointers : length l.layout.offsets.now ≡ suc (length l.layout.components.now);
+  accepted : checks_below l.b (owner_check l.layout.components.now l.dof_owners l.ranks) ≡ Ok tt;
 }

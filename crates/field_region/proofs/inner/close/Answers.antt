@@ -1,7 +1,7 @@
 -- `field_region::inner::close` meets its contract. Assumes nothing.
-use Rattle.std.proofs.Common.{arith}
-use Rattle.mask.proofs.Masks.{is-length}
+use Rattle.std.proofs.Common.{subst}
+use Rattle.mask.specs.Mask.{IsMask}
 use Rattle.field_region.proofs.inner.close.Goals as goal
 
-pub copy_from_slice-requires : goal.copy_from_slice-requires
-copy_from_slice-requires c = omega (arith, is-length _ _ c.requires.2)
+pub close_in_place-requires : goal.close_in_place-requires
+close_in_place-requires c = (c.args.layout.totals, c.args.layout.few, rw c.copy.ensures (subst (λ n. IsMask n c.args.mask.words.now) c.requires.0 c.args.mask.accepted))

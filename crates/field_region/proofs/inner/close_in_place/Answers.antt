@@ -79,10 +79,11 @@ loop-w-preserved c =
       none = none-turn _ _ _ (range-bits _ _ _ _ _ _ c.bits_below.ensures c.bits_below-in-loop-w.ensures) c.if-words-w-ne0.false v.none;
     }
 
+pub invariant_of-next_member : goal.invariant_of-next_member
+invariant_of-next_member c = record { accepted = rw (total-is _ _ c.requires.0) c.loop-w.invariant.masked }
+
 pub next_member-next-requires : goal.next_member-next-requires
-next_member-next-requires c =
-    let e = total-is _ _ c.requires.0 in
-    (rw e c.loop-w.invariant.masked, omega (arith, e))
+next_member-next-requires c = omega (arith, total-is _ _ c.requires.0)
 
 pub blocks-2-preserved : goal.blocks-2-preserved
 blocks-2-preserved c =

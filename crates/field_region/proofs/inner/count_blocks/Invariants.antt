@@ -7,6 +7,6 @@ use Rattle.field_region.proofs.inner.count_blocks.Given as goal
 
 abbrev pub invariant-loop-b : goal.invariant-loop-b
 invariant-loop-b l = record {
-  counted : l.count ≡ count_below l.b (λ k. in_mask l.region (start_of l.components k));
+  counted : l.count ≡ count_below l.b (λ k. in_mask l.region.words.now (start_of l.layout.components.now k));
   few : l.count ≤ l.b;
 }

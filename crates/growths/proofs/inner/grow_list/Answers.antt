@@ -1,11 +1,9 @@
 -- `growths::inner::grow_list` meets its contract. Assumes nothing.
-use Rattle.std.proofs.Common.{arith}
-use Rattle.dual_topology.proofs.Accepted.{accepted-topology}
-use Rattle.growths.proofs.Grounds.{square-solid}
+use Rattle.growths.proofs.Grounds.{few-rows, square-solid}
 use Rattle.growths.proofs.Growing.{seeds-len}
 use Rattle.growths.proofs.inner.grow_list.Goals as goal
 
 pub grow_all-requires : goal.grow_all-requires
 grow_all-requires c =
-    let few = (accepted-topology _ _ _ _ _ _ _ _ _ _ _ _ (λ k. omega (arith, c.type_inv.row_masks k)) (λ k. omega (arith, c.type_inv.column_masks k)) c.requires.0).topology.rows.shape.few_rows in
-    (c.args.nrows, c.args.len, square-solid _ _ _ _ _ c.requires.0 c.requires.1 few (seeds-len _ _ _ c.requires.2), c.requires.2, c.requires.3)
+    let few = few-rows _ _ _ _ _ _ _ _ _ _ _ _ c.requires.0 in
+    (c.args.topology.rows.nrows, c.args.len, square-solid _ _ _ _ _ c.requires.0 c.requires.1 few (seeds-len _ _ _ c.requires.2), c.requires.2, c.requires.3)

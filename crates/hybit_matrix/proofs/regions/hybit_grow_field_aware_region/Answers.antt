@@ -3,5 +3,5 @@ use mathlib.Core.Path.{ap, ◌∙◌}
 use Rattle.hybit_matrix.specs.FlatRegions.{flat_of_field_grown}
 use Rattle.hybit_matrix.proofs.regions.hybit_grow_field_aware_region.Goals as goal
 
-pub returns : goal.returns
-returns c = let u = c.grow_field_aware_region.ensures in record { value = c.flat_field_grown.ensures ∙ ap flat_of_field_grown u.value; inside = u.inside; edge = u.edge; spent = u.spent }
+pub returns-clause-value : goal.returns-clause-value
+returns-clause-value c = c.into.ensures ∙ ap flat_of_field_grown (rw (c.topology.ensures, c.layout.ensures, c.mask.ensures) at c.grow_field_aware_region.ensures.value)

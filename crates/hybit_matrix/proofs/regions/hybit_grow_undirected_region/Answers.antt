@@ -3,5 +3,5 @@ use mathlib.Core.Path.{ap, ◌∙◌}
 use Rattle.hybit_matrix.specs.FlatRegions.{flat_of_grown}
 use Rattle.hybit_matrix.proofs.regions.hybit_grow_undirected_region.Goals as goal
 
-pub returns : goal.returns
-returns c = let u = c.grow_undirected_region.ensures in record { value = c.flat_grown.ensures ∙ ap flat_of_grown u.value; inside = u.inside; edge = u.edge; spent = u.spent }
+pub returns-clause-value : goal.returns-clause-value
+returns-clause-value c = c.into.ensures ∙ ap flat_of_grown (rw (c.topology.ensures, c.mask.ensures) at c.grow_undirected_region.ensures.value)

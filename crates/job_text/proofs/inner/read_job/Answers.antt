@@ -1,46 +1,86 @@
 -- `job_text::inner::read_job` meets its contract. Assumes nothing.
-use Rattle.std.proofs.Common.{◌≡◌, ℕ, ◌+◌, ◌-◌, ◌&&◌, Bool, List, length, take, drop, sym, ap, ◌∙◌, length-drop, drop-drop, map-id, leb}
-use mathlib.Core.Bool.{and_assoc}
-use Rattle.text_reading.specs.Reading.{list_of, value_of, from_line}
-use Rattle.job_text.specs.Job.{size_key, blocks_key, ptr_key, cols_key, seeds_key, hops_key, text_limit, most64, most32, number_at, list_found_at, is_job, job_of}
-use Rattle.job_text.proofs.Texts.{part-rest, line-next}
+use Rattle.std.proofs.Common.{◌≡◌, Bool, false, length, take, sym, ap, ◌∙◌, map-id}
+use borrow.Author.Tests.{le-leb, lt-leb, eq-eqb, ne_eqb}
+use Rattle.std.specs.Bool.{then_some}
+use Rattle.base.specs.Lists.{over}
+use Rattle.text_writing.specs.Text.{newline}
+use Rattle.text_reading.specs.Reading.{behind, list_of, value_of, number_found, list_found, from_line}
+use Rattle.job_text.specs.Job.{blocks_key, ptr_key, cols_key, seeds_key, hops_key, most64, most32, number_at, list_found_at, is_job, job_of, figures_of, figures_read}
+use Rattle.job_text.proofs.Texts.{figures-all, six_lines, job-whole, job-long, job-more}
+use Rattle.job_text.proofs.inner.read_job.Goals.{After-figures-read, else-text-le16384-via-then-text-le16384+else-rest-eq0, else-text-le16384-via-else-text-le16384}
 use Rattle.job_text.proofs.inner.read_job.Goals as goal
 
-pub returns : goal.returns
-unfolding is_job job_of list_found_at number_at from_line
-returns c =
+-- the texts behind the lines
+module _ (c : After-figures-read) where
+  behind1 : c.number_line-size.result.1.now ≡ from_line 1 c.args.text.now
+  unfolding from_line
+  behind1 = c.number_line-size.ensures.rest
+
+  behind2 : c.list_line-blocks.result.1.now ≡ from_line 2 c.args.text.now
+  unfolding from_line
+  behind2 = c.list_line-blocks.ensures.rest ∙ ap (behind newline) behind1
+
+  behind3 : c.list_line-pointers.result.1.now ≡ from_line 3 c.args.text.now
+  unfolding from_line
+  behind3 = c.list_line-pointers.ensures.rest ∙ ap (behind newline) behind2
+
+  behind4 : c.list_line-columns.result.1.now ≡ from_line 4 c.args.text.now
+  unfolding from_line
+  behind4 = c.list_line-columns.ensures.rest ∙ ap (behind newline) behind3
+
+  behind5 : c.list_line-seeds.result.1.now ≡ from_line 5 c.args.text.now
+  unfolding from_line
+  behind5 = c.list_line-seeds.ensures.rest ∙ ap (behind newline) behind4
+
+  behind6 : c.number_line-hops.result.1.now ≡ from_line 6 c.args.text.now
+  unfolding from_line
+  behind6 = c.number_line-hops.ensures.rest ∙ ap (behind newline) behind5
+
+  read : c.figures-read.result ≡ then_some (six_lines c.args.text.now) (figures_of (job_of c.args.text.now))
+  unfolding number_at list_found_at from_line job_of
+  read =
+      c.figures-read.ensures
+      ∙ (λ i. figures_read (c.number_line-size.ensures.number i) ((c.list_line-blocks.ensures.count ∙ ap (list_found blocks_key most32) behind1) i) ((c.list_line-pointers.ensures.count ∙ ap (list_found ptr_key most32) behind2) i) ((c.list_line-columns.ensures.count ∙ ap (list_found cols_key most32) behind3) i) ((c.list_line-seeds.ensures.count ∙ ap (list_found seeds_key most64) behind4) i) ((c.number_line-hops.ensures.number ∙ ap (number_found hops_key most64) behind5) i))
+      ∙ figures-all _ _ _ _ _ _ _ _ _ _ _ _
+
+  lists :
+      (c.list_line-blocks.new.list ≡ over (take (length c.args.blocks.now) (job_of c.args.text.now).blocks) c.args.blocks.now)
+      × (c.list_line-pointers.new.list ≡ over (take (length c.args.ptr.now) (job_of c.args.text.now).ptr) c.args.ptr.now)
+      × (c.list_line-columns.new.list ≡ over (take (length c.args.cols.now) (job_of c.args.text.now).cols) c.args.cols.now)
+      × (c.list_line-seeds.new.list ≡ over (take (length c.args.seeds.now) (job_of c.args.text.now).seeds) c.args.seeds.now)
+  unfolding job_of
+  lists = (
+    cc (c.list_line-blocks.ensures.list_after, behind1, map-id (list_of most32 (value_of blocks_key (from_line 1 c.args.text.now)))),
+    cc (c.list_line-pointers.ensures.list_after, behind2, map-id (list_of most32 (value_of ptr_key (from_line 2 c.args.text.now)))),
+    cc (c.list_line-columns.ensures.list_after, behind3, map-id (list_of most32 (value_of cols_key (from_line 3 c.args.text.now)))),
+    cc (c.list_line-seeds.ensures.list_after, behind4, map-id (list_of most64 (value_of seeds_key (from_line 4 c.args.text.now)))),
+  )
+
+pub returns-then-rest-eq0 : goal.returns-then-rest-eq0
+returns-then-rest-eq0 c =
+    let a = (goal.at.returns-then-rest-eq0 c).After-figures-read in
     let t = c.args.text.now in
-    let n = c.number_line-size in
-    let l = c.read_lists-lists in
-    let m = c.list_line-line in
-    let h = c.number_line-hops in
-    let A = n.result.next in
-    let B = A + l.result.next in
-    let D = B + m.result.next in
-    let E = D + h.result.next in
-    let T1 : List ℕ = take (length t - A) (drop A t) in
-    let T4 : List ℕ = take (length t - B) (drop B t) in
-    let T5 : List ℕ = take (length t - D) (drop D t) in
-    let t1 : T1 ≡ from_line 1 t = part-rest t A ∙ n.ensures.text_value in
-    let e4 : drop B t ≡ from_line 4 t = sym (drop-drop l.result.next A t) ∙ ap (drop l.result.next) (sym (part-rest t A)) ∙ l.ensures.next_in_bounds.1 ∙ ap (from_line 3) t1 in
-    let t4 : T4 ≡ from_line 4 t = part-rest t B ∙ e4 in
-    let e5 : drop D t ≡ from_line 5 t = line-next t 4 B m.result.next T4 (part-rest t B) e4 m.ensures.text_value in
-    let t5 : T5 ≡ from_line 5 t = part-rest t D ∙ e5 in
-    let e6 : drop E t ≡ from_line 6 t = line-next t 5 D h.result.next T5 (part-rest t D) e5 h.ensures.text_value in
-    let left : length t - E ≡ length (from_line 6 t) = sym (length-drop E t) ∙ ap length e6 in
-    let few : Bool = leb (length t) text_limit && number_at 0 size_key most64 t in
-    let q1 : Bool = list_found_at 1 blocks_key most32 t in
-    let q2 : Bool = list_found_at 2 ptr_key most32 t in
-    let three = and_assoc few (q1 && q2) (list_found_at 3 cols_key most32 t) in
-    let two = and_assoc few q1 q2 in
-    let g1 : l.result.good ≡ (q1 && q2 && list_found_at 3 cols_key most32 t) = cc (l.ensures.good_value, t1) in
-    let g4 : m.result.good ≡ list_found_at 4 seeds_key most64 t = cc (m.ensures.good_value, t4) in
-    let g5 : h.result.good ≡ number_at 5 hops_key most64 t = cc (h.ensures.good_value, t5) in record {
-      good_value = cc (n.ensures.good_value, g1, g4, g5, left, three, two);
-      size_value = (n.ensures.value_value, cc (h.ensures.value_value, t5));
-      blocks_value = (cc (l.ensures.blocks_value.0, t1), cc (l.ensures.blocks_value.1, t1), cc (l.ensures.blocks_value.2, t1), cc (m.ensures.count_value, t4));
-      components = cc (l.ensures.components, t1);
-      pointers = cc (l.ensures.pointers, t1);
-      columns = cc (l.ensures.columns, t1);
-      selected = cc (m.ensures.list_after, t4, map-id (list_of most64 (value_of seeds_key T4)));
+    let l = lists a in
+    let whole = job-whole t (le-leb _ _ c.if-text-le16384.true) (eq-eqb _ _ (sym (ap length (behind6 a)) ∙ c.if-rest-eq0.true)) in record {
+      value = read a ∙ ap (λ (b : Bool). then_some b (figures_of (job_of t))) (sym whole);
+      components = l.0;
+      pointers = l.1;
+      columns = l.2;
+      selected = l.3;
+    }
+
+pub returns-else-text-le16384 : goal.returns-else-text-le16384
+returns-else-text-le16384 c =
+    let a = (goal.at.returns-else-text-le16384 c).After-figures-read in
+    let t = c.args.text.now in
+    let l = lists a in
+    let none : is_job t ≡ false = elim c.else-text-le16384.branch [
+      | else-text-le16384-via-then-text-le16384+else-rest-eq0 w ↦ job-more t (ne_eqb _ _ (λ e. w.if-rest-eq0.false (ap length (behind6 a) ∙ e)))
+      | else-text-le16384-via-else-text-le16384 w ↦ job-long t (lt-leb _ _ w.if-text-le16384.false)
+    ] in record {
+      value = sym (ap (λ (b : Bool). then_some b (figures_of (job_of t))) none);
+      components = l.0;
+      pointers = l.1;
+      columns = l.2;
+      selected = l.3;
     }

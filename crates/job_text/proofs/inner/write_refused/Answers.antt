@@ -5,6 +5,8 @@ use Prim.Native.Nat.{◌+◌}
 use native.Mathlib.Omega.{arith}
 use borrow.Author.Tests.{le-leb, lt-leb}
 use lib.ListN.{length}
+use Rattle.std.proofs.Common.{rules}
+use Rattle.base.specs.Lists.{over}
 use Rattle.base.proofs.Checks.{on-accepted, on-refused, kept, last-pass, last-stop}
 use Rattle.text_writing.specs.Text.{decimal, line}
 use Rattle.text_writing.proofs.Digits.{decimal-most}
@@ -34,7 +36,8 @@ returns c =
     let text = line refused_key (decimal c.args.number) in
     let n : c.decimal_length-length.result + 9 ≡ length text = omega (arith, length-line) in
     let m : 9 + c.decimal_length-length.result ≡ length text = omega (arith, n) in
+    let put : c.put_line.new.out.bytes.now ≡ over text c.args.out.now = c.put_line.ensures.bytes ∙ placed-front text c.args.out.now in
     let e = sym (last-pass _ _ _ (le-leb (length text) (length c.args.out.now) (omega (arith, n))) refl) in record {
       value = on-accepted _ _ _ _ e (ap Ok m);
-      out_after = on-accepted _ _ _ _ e (c.put_line.ensures.out_after ∙ placed-front text c.args.out.now);
+      out_after = on-accepted _ _ _ _ e (search rules ∙ put);
     }

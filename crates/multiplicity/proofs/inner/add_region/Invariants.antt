@@ -4,10 +4,10 @@ use Rattle.multiplicity.proofs.Adds.{Walked, Added}
 use Rattle.multiplicity.proofs.inner.add_region.Given as goal
 
 abbrev pub invariant-loop-bits : goal.invariant-loop-bits
-invariant-loop-bits l = Walked l.node_count l.region l.initial.counts l.w l.counts l.bits
+invariant-loop-bits l = Walked l.region.len l.region.words.now l.initial.counts l.w l.counts l.bits
 
 abbrev pub decreases-loop-bits : goal.decreases-loop-bits
 decreases-loop-bits l = l.bits
 
 abbrev pub invariant-loop-w : goal.invariant-loop-w
-invariant-loop-w l = Added l.node_count l.region l.initial.counts l.counts l.w
+invariant-loop-w l = Added l.region.len l.region.words.now l.initial.counts l.counts l.w

@@ -10,9 +10,11 @@ loop-q-init c =
     let e : c.fill.new.self ≡ replicate (length c.args.counts.now) 0 = search rules in
     e ∙ mults-none _ _ _ c.requires.1
 
+pub invariant_of-add_region : goal.invariant_of-add_region
+invariant_of-add_region c = record { accepted = rw (region-part _ _ _ _ c.words_for-each.ensures) (c.requires.0.masks _ c.loop-q-test.true) }
+
 pub add_region-requires : goal.add_region-requires
 add_region-requires c = (
-  rw (region-part _ _ _ _ c.words_for-each.ensures) (c.requires.0.masks _ c.loop-q-test.true),
   rw c.loop-q.invariant (length-list_from _ _ _),
   λ i. rw c.loop-q.invariant (omega (arith, mults-le)),
 )

@@ -19,28 +19,28 @@ pub loop-w-init : goal.loop-w-init
 loop-w-init c = (sym (sum-zero _), refl)
 
 pub bounds-ranks-w : goal.bounds-ranks-w
-bounds-ranks-w c = omega (arith, is-length _ _ c.requires.0)
+bounds-ranks-w c = omega (arith, is-length _ _ c.args.region.accepted)
 
 pub overflow_add-before : goal.overflow_add-before
 overflow_add-before c =
-    omega (arith, ones-le 64 _ (is-fits _ _ c.requires.0 c.loop-w.w (omega arith)), count-le (64 * c.loop-w.w) (in_mask c.args.region.now), is-length _ _ c.requires.0, c.requires.0.short)
+    omega (arith, ones-le 64 _ (is-fits _ _ c.args.region.accepted c.loop-w.w (omega arith)), count-le (64 * c.loop-w.w) (in_mask c.args.region.words.now), is-length _ _ c.args.region.accepted, c.args.region.accepted.short)
 
 pub loop-w-preserved : goal.loop-w-preserved
 loop-w-preserved c =
     let l = c.loop-w in
-    let p = in_mask c.args.region.now in
-    let word = get_or c.args.region.now l.w 0 in
-    let n = c.args.n in
+    let p = in_mask c.args.region.words.now in
+    let word = get_or c.args.region.words.now l.w 0 in
+    let n = c.args.region.len in
     let f : ℕ → ℕ = λ w. count_below (64 * w) p in
-    let fits = is-fits _ _ c.requires.0 l.w (omega arith) in
+    let fits = is-fits _ _ c.args.region.accepted l.w (omega arith) in
     let none : word ≡ 0 → ones word ≡ 0 = λ z. let few : ones word ≤ 0 = ones-le 0 word (omega (arith, z)) in omega arith in
     let counted : c.if-bits-ne0.before ≡ l.before + ones word = elim c.if-bits-ne0.branch [ then-bits-ne0 w ↦ w.before-is | else-bits-ne0 w ↦ omega (arith, w.before-is, none w.if-bits-ne0.false) ] in (
-      counted ∙ ap (λ (t : ℕ). t + ones word) l.invariant.0 ∙ count_turn p l.w word (λ j m. in-word c.args.region.now l.w j m) fits,
-      put_next (ranks_of n p) c.args.ranks.now l.ranks l.w l.before 0 (omega (arith, length-list_from f (words_needed n) 0, is-length _ _ c.requires.0)) (omega (arith, is-length _ _ c.requires.0)) l.invariant.1
-          (l.invariant.0 ∙ ap f (sym (zero-add l.w)) ∙ sym (get_or-list_from f (words_needed n) 0 l.w 0 (omega (arith, is-length _ _ c.requires.0)))),
+      counted ∙ ap (λ (t : ℕ). t + ones word) l.invariant.0 ∙ count_turn p l.w word (λ j m. in-word c.args.region.words.now l.w j m) fits,
+      put_next (ranks_of n p) c.args.ranks.now l.ranks l.w l.before 0 (omega (arith, length-list_from f (words_needed n) 0, is-length _ _ c.args.region.accepted)) (omega (arith, is-length _ _ c.args.region.accepted)) l.invariant.1
+          (l.invariant.0 ∙ ap f (sym (zero-add l.w)) ∙ sym (get_or-list_from f (words_needed n) 0 l.w 0 (omega (arith, is-length _ _ c.args.region.accepted)))),
     )
 
 pub returns : goal.returns
 returns c =
-    put-end (ranks_of c.args.n (in_mask c.args.region.now)) c.args.ranks.now c.loop-w.ranks c.loop-w.w
-    (omega (arith, length-list_from (λ w. count_below (64 * w) (in_mask c.args.region.now)) (words_needed c.args.n) 0, is-length _ _ c.requires.0)) c.loop-w.invariant.1
+    put-end (ranks_of c.args.region.len (in_mask c.args.region.words.now)) c.args.ranks.now c.loop-w.ranks c.loop-w.w
+    (omega (arith, length-list_from (λ w. count_below (64 * w) (in_mask c.args.region.words.now)) (words_needed c.args.region.len) 0, is-length _ _ c.args.region.accepted)) c.loop-w.invariant.1

@@ -8,4 +8,4 @@ use Rattle.pattern.specs.Steps.{ranks_of}
 use Rattle.pattern.proofs.inner.fill_ranks.Given as goal
 
 abbrev pub invariant-loop-w : goal.invariant-loop-w
-invariant-loop-w l = (l.before ≡ count_below (64 * l.w) (in_mask l.region)) × (l.ranks ≡ written l.w (ranks_of l.n (in_mask l.region)) l.initial.ranks)
+invariant-loop-w l = (l.before ≡ count_below (64 * l.w) (in_mask l.region.words.now)) × (l.ranks ≡ written l.w (ranks_of l.region.len (in_mask l.region.words.now)) l.initial.ranks)

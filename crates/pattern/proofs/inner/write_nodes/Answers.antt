@@ -21,24 +21,24 @@ use Rattle.pattern.proofs.inner.write_nodes.Goals as goal
 
 -- a word's nodes are numbers of 32 bits
 low : (c : In-loop-w) → 64 * c.loop-w.w + 64 < 2 ^ 32
-low c = omega (arith, is-length _ _ c.requires.0, c.requires.0.short)
+low c = omega (arith, is-length _ _ c.args.region.accepted, c.args.region.accepted.short)
 
 -- the lowest of the bits that are left
-turn : (c : In-loop-bits) → left c.args.region.now c.loop-w.w c.loop-bits.bits
-    ≡ (c.loop-w.w * 64 + count_trailing_zeros 64 c.loop-bits.bits) ∷ left c.args.region.now c.loop-w.w (bit_and c.loop-bits.bits (c.loop-bits.bits - 1))
+turn : (c : In-loop-bits) → left c.args.region.words.now c.loop-w.w c.loop-bits.bits
+    ≡ (c.loop-w.w * 64 + count_trailing_zeros 64 c.loop-bits.bits) ∷ left c.args.region.words.now c.loop-w.w (bit_and c.loop-bits.bits (c.loop-bits.bits - 1))
 turn c =
     let w = c.loop-w.w in
     let e : 64 * w + count_trailing_zeros 64 c.loop-bits.bits ≡ w * 64 + count_trailing_zeros 64 c.loop-bits.bits = omega arith in
-    ap (λ (m : List ℕ). map (λ (i : ℕ). 64 * w + i) m ++ ahead c.args.region.now (w + 1)) (lowest 64 c.loop-bits.bits (omega arith) (omega arith))
-    ∙ ap (λ (x : ℕ). x ∷ left c.args.region.now w (bit_and c.loop-bits.bits (c.loop-bits.bits - 1))) e
+    ap (λ (m : List ℕ). map (λ (i : ℕ). 64 * w + i) m ++ ahead c.args.region.words.now (w + 1)) (lowest 64 c.loop-bits.bits (omega arith) (omega arith))
+    ∙ ap (λ (x : ℕ). x ∷ left c.args.region.words.now w (bit_and c.loop-bits.bits (c.loop-bits.bits - 1))) e
 
 pub loop-w-init : goal.loop-w-init
 loop-w-init c =
-    let region = c.args.region.now in
+    let region = c.args.region.words.now in
     let all : length region - 0 ≡ length region = omega arith in
-    subst (λ (X : List ℕ). Coming (count_below c.args.n (in_mask region)) (over (members c.args.n region) c.args.nodes.now) 0 X c.args.nodes.now)
-    (sym (members-all c.args.n region c.requires.0) ∙ ap (λ (x : ℕ). members_from (in_mask region) 0 (64 * x)) (sym all))
-    (coming_over (members c.args.n region) c.args.nodes.now _ (count-members c.args.n (in_mask region)))
+    subst (λ (X : List ℕ). Coming (count_below c.args.region.len (in_mask region)) (over (members c.args.region.len region) c.args.nodes.now) 0 X c.args.nodes.now)
+    (sym (members-all c.args.region.len region c.args.region.accepted) ∙ ap (λ (x : ℕ). members_from (in_mask region) 0 (64 * x)) (sym all))
+    (coming_over (members c.args.region.len region) c.args.nodes.now _ (count-members c.args.region.len (in_mask region)))
 
 pub overflow_mul-first : goal.overflow_mul-first
 overflow_mul-first c = omega (arith, low (goal.at.overflow_mul-first c).In-loop-w)
@@ -47,7 +47,7 @@ pub overflow_cast-first : goal.overflow_cast-first
 overflow_cast-first c = omega (arith, low (goal.at.overflow_cast-first c).In-loop-w)
 
 pub loop-bits-init : goal.loop-bits-init
-loop-bits-init c = rw (sym (open-word c.args.region.now c.loop-w.w (omega arith))) c.loop-w.invariant
+loop-bits-init c = rw (sym (open-word c.args.region.words.now c.loop-w.w (omega arith))) c.loop-w.invariant
 
 pub overflow_add-nodes : goal.overflow_add-nodes
 overflow_add-nodes c = omega (arith, trailing_le 64 c.loop-bits.bits, low (goal.at.overflow_add-nodes c).In-loop-w)
@@ -60,15 +60,15 @@ loop-bits-preserved c = coming_next c.loop-bits.invariant _ _ (turn (goal.at.loo
 
 pub loop-w-preserved : goal.loop-w-preserved
 loop-w-preserved c =
-    let region = c.args.region.now in
-    subst (λ (X : List ℕ). Coming (count_below c.args.n (in_mask region)) (over (members c.args.n region) c.args.nodes.now) c.loop-bits.k X c.loop-bits.nodes)
+    let region = c.args.region.words.now in
+    subst (λ (X : List ℕ). Coming (count_below c.args.region.len (in_mask region)) (over (members c.args.region.len region) c.args.nodes.now) c.loop-bits.k X c.loop-bits.nodes)
     (ap (left region c.loop-w.w) c.loop-bits-test.false ∙ ap (λ (m : List ℕ). map (λ (i : ℕ). 64 * c.loop-w.w + i) m ++ ahead region (c.loop-w.w + 1)) (no_bits 64))
     c.loop-bits.invariant
 
 pub returns : goal.returns
 returns c =
-    let p = in_mask c.args.region.now in
-    let none : 64 * (length c.args.region.now - c.loop-w.w) ≡ 0 = omega arith in
+    let p = in_mask c.args.region.words.now in
+    let none : 64 * (length c.args.region.words.now - c.loop-w.w) ≡ 0 = omega arith in
     let done = coming_none c.loop-w.invariant (ap (members_from p (64 * c.loop-w.w)) none ∙ members-zero p (64 * c.loop-w.w)) in record {
       value = done.0;
       nodes_after = done.1;

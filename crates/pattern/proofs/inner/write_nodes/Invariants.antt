@@ -19,10 +19,10 @@ abbrev pub left : List ℕ → ℕ → ℕ → List ℕ
 left region w bits = map (λ (i : ℕ). 64 * w + i) (set_bits bits) ++ ahead region (w + 1)
 
 abbrev pub invariant-loop-bits : goal.invariant-loop-bits
-invariant-loop-bits l = Coming (count_below l.n (in_mask l.region)) (over (members l.n l.region) l.fn.nodes) l.k (left l.region l.w l.bits) l.nodes
+invariant-loop-bits l = Coming (count_below l.region.len (in_mask l.region.words.now)) (over (members l.region.len l.region.words.now) l.fn.nodes) l.k (left l.region.words.now l.w l.bits) l.nodes
 
 abbrev pub decreases-loop-bits : goal.decreases-loop-bits
 decreases-loop-bits l = l.bits
 
 abbrev pub invariant-loop-w : goal.invariant-loop-w
-invariant-loop-w l = Coming (count_below l.n (in_mask l.region)) (over (members l.n l.region) l.fn.nodes) l.k (ahead l.region l.w) l.nodes
+invariant-loop-w l = Coming (count_below l.region.len (in_mask l.region.words.now)) (over (members l.region.len l.region.words.now) l.fn.nodes) l.k (ahead l.region.words.now l.w) l.nodes

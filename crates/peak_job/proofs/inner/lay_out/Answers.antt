@@ -12,6 +12,8 @@ use Rattle.base.proofs.Lists.{over-own, take-replicate, take-list_from}
 use Rattle.csr32.specs.Matrix.{matrix_check}
 use Rattle.dof_layout.specs.Layout.{offsets_of}
 use Rattle.dof_layout.specs.Answers.{square_check}
+use Rattle.dof_layout.specs.Views.{check_square}
+use Rattle.dof_layout.specs.declared.FieldAwareDofLayout.{FieldAwareDofLayout}
 use Rattle.dof_layout.proofs.Layouts.{offsets-length}
 use Rattle.pattern.specs.Pattern.{one}
 use Rattle.job_text.specs.Answer.{text_answer, text_left}
@@ -45,7 +47,9 @@ returns c =
     ap₂ (λ (m : ℕ) (l : List ℕ). take m l) last c.write_offsets.ensures.out_after ∙ over-own (offsets_of blocks) _ (suc B) (offsets-length blocks) in
     let same : (matrix_check n n ptr cols (take (length cols - 0) (replicate 1024 one)) then square_check (take (B - 0) (replicate {A = ℕ} 1024 1)) (take (B - 0) c.number.new.ids) (take (B - 0) (replicate {A = ℕ} 1024 0)) blocks (take (B + 1 - 0) c.write_offsets.new.out) n n) ≡ laid_check n blocks ptr cols =
     λ j. matrix_check n n ptr cols (v j) then square_check (k j) (i j) (f j) blocks (o j) n n in
+    let of : FieldAwareDofLayout → List ℕ =
+    λ l. text_of (matrix_check n n ptr cols (take (length cols - 0) (replicate 1024 one)) then check_square l n n) (region_text n ptr cols l.blocks.components.now c.args.words.now c.args.hops) in
     let t : List ℕ = region_text n ptr cols blocks c.args.words.now c.args.hops in record {
-      value = c.cut.ensures.value ∙ ap (λ (x : Check). text_answer (text_of x t) c.args.out.now) same;
-      out_after = c.cut.ensures.out_after ∙ ap (λ (x : Check). text_left (text_of x t) c.args.out.now) same;
+      value = c.cut.ensures.value ∙ ap (λ (l : FieldAwareDofLayout). text_answer (of l) c.args.out.now) c.layout-laid.ensures ∙ ap (λ (x : Check). text_answer (text_of x t) c.args.out.now) same;
+      out_after = c.cut.ensures.out_after ∙ ap (λ (l : FieldAwareDofLayout). text_left (of l) c.args.out.now) c.layout-laid.ensures ∙ ap (λ (x : Check). text_left (text_of x t) c.args.out.now) same;
     }

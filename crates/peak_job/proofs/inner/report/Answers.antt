@@ -1,5 +1,5 @@
 -- `peak_job::inner::report` meets its contract. Assumes nothing.
-use mathlib.Core.Path.{◌≡◌, sym, ap, ap₂, ◌∙◌, subst}
+use mathlib.Core.Path.{◌≡◌, sym, ap, ap₂, ◌∙◌}
 use mathlib.Core.List.{List}
 use Prim.Native.Nat.{ℕ, ◌+◌, ◌-◌, ◌≤◌}
 use native.Mathlib.Omega.{arith}
@@ -7,17 +7,13 @@ use lib.ListN.{take, length-replicate}
 use Rattle.base.specs.Sets.{members_below}
 use Rattle.base.proofs.Lists.{over-own}
 use Rattle.base.proofs.Sets.{count-le, count-members}
-use Rattle.mask.specs.Mask.{words_needed, in_mask, IsMask}
+use Rattle.mask.specs.Mask.{words_needed, in_mask}
 use Rattle.job_text.specs.Answer.{result_lines, text_answer, text_left}
 use Rattle.peak_job.proofs.inner.report.Goals.{After-write_nodes-reached}
 use Rattle.peak_job.proofs.inner.report.Goals as goal
 
 pub write_nodes-reached-requires : goal.write_nodes-reached-requires
-write_nodes-reached-requires c =
-    let part : List ℕ = take c.words_for-need.result c.args.frontier.now in (
-      subst (λ (k : ℕ). IsMask c.args.size (take k c.args.frontier.now)) (sym c.words_for-need.ensures) c.requires.2,
-      omega (arith, c.requires.0, count-le c.args.size (in_mask part), length-replicate {A = ℕ} 256 0),
-    )
+write_nodes-reached-requires c = omega (arith, c.requires.0, count-le c.args.size (in_mask (take c.words_for-need.result c.args.frontier.now)), length-replicate {A = ℕ} 256 0)
 
 -- how many there are is at most the size
 few : (c : After-write_nodes-reached) → c.write_nodes-reached.result ≤ 256

@@ -11,8 +11,8 @@ returns-in_err-check_room c = handed _ _ c.from_residual.ensures.1 ∙ group-sto
 
 pub returns-in_err-check_room-2 : goal.returns-in_err-check_room-2
 unfolding prepare_room
-returns-in_err-check_room-2 c = handed _ _ c.from_residual-in_err-check_room-2.ensures.1 ∙ group-pass _ _ _ (sym c.check_room.ensures ∙ c.in_ok-check_room.was) (group-stop _ _ _ (sym c.check_room-2.ensures ∙ c.in_err-check_room-2.was))
+returns-in_err-check_room-2 c = handed _ _ c.from_residual-in_err-check_room-2.ensures.1 ∙ group-pass _ _ _ (sym c.check_room.ensures ∙ c.in_ok-check_room.was) (group-stop _ _ _ (sym c.check_room-2.ensures.value ∙ c.in_err-check_room-2.was))
 
 pub returns : goal.returns
 unfolding prepare_room
-returns c = group-pass _ _ _ (sym c.check_room.ensures ∙ c.in_ok-check_room.was) (group-pass _ _ _ (sym c.check_room-2.ensures ∙ c.in_ok-check_room-2.was) c.check_local.ensures)
+returns c = group-pass _ _ _ (sym c.check_room.ensures ∙ c.in_ok-check_room.was) (group-pass _ _ _ (sym c.check_room-2.ensures.value ∙ c.in_ok-check_room-2.was) c.check_local.ensures)

@@ -1,11 +1,10 @@
 -- `repeated::local::hybit_repeated_gather` meets its contract: the list that the checked gather left is written again with the same. Assumes
 -- nothing.
-use mathlib.Core.Path.{◌≡◌, sym, ap, ◌∙◌}
-use Rattle.std.specs.Prelude.{Ok, Err}
+use mathlib.Core.Path.{◌≡◌, sym, ◌∙◌}
+use Rattle.std.specs.Prelude.{Ok}
 use native.Mathlib.Omega.{arith}
 use Rattle.gather.specs.Gather.{gather_check, gathered}
 use Rattle.gather.proofs.Plans.{Accepts, accepted-gather}
-use Rattle.repeated.specs.Repeated.{count_answer}
 use Rattle.repeated.proofs.Rewriting.{holds, gather-accepted}
 use Rattle.repeated.proofs.local.hybit_repeated_gather.Goals.{In-Ok, Start}
 use Rattle.repeated.proofs.local.hybit_repeated_gather.Goals as goal
@@ -21,16 +20,11 @@ module _ (c : In-Ok) where
   good : Accepts s.args.source_ptr.now s.args.source_indices.now s.args.source_value_len s.args.values.now s.args.out.now
   good = accepted-gather _ _ _ _ _ ok
 
+pub invariant_of-accepted : goal.invariant_of-accepted
+invariant_of-accepted c = let g = good (goal.at.invariant_of-accepted c).In-Ok in record { some = g.some; starts = g.starts; rises = g.rises; ends = g.ends; inside = g.inside }
+
 pub repeat_gather-requires : goal.repeat_gather-requires
 repeat_gather-requires c =
     let g = good (goal.at.repeat_gather-requires c).In-Ok in
     let left = c.gather_values.ensures.out_after in
-    (g.some, g.starts, g.rises, g.ends, g.inside, omega (arith, g.room), holds _ (gathered c.args.source_ptr.now c.args.source_indices.now c.args.values.now) c.args.out.now _ (ok (goal.at.repeat_gather-requires c).In-Ok) left)
-
-pub returns-in-Err-clause-value : goal.returns-in-Err-clause-value
-unfolding count_answer
-returns-in-Err-clause-value c = c.refused.ensures ∙ ap count_answer (sym c.in-Err.is ∙ c.gather_values.ensures.value)
-
-pub returns-in-Ok-clause-value : goal.returns-in-Ok-clause-value
-unfolding count_answer
-returns-in-Ok-clause-value c = c.answered.ensures ∙ ap count_answer (sym c.in-Ok.is ∙ c.gather_values.ensures.value)
+    (omega (arith, g.room), holds _ (gathered c.args.source_ptr.now c.args.source_indices.now c.args.values.now) c.args.out.now _ (ok (goal.at.repeat_gather-requires c).In-Ok) left)

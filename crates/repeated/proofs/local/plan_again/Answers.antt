@@ -1,6 +1,6 @@
 -- `repeated::local::plan_again` meets its contract: each list is written with what it holds. Assumes nothing.
 use mathlib.Core.Path.{◌≡◌, sym, ◌∙◌}
-use Rattle.std.specs.Prelude.{Ok, Err}
+use Rattle.std.specs.Prelude.{Ok}
 use Rattle.base.specs.Checks.{Check}
 use mathlib.Core.Bool.{Bool}
 use mathlib.Core.List.{List}
@@ -15,29 +15,29 @@ use Rattle.repeated.proofs.local.plan_again.Goals.{Start}
 use Rattle.repeated.proofs.local.plan_again.Goals as goal
 
 abbrev region : Start → ℕ → Bool
-region s = in_mask s.args.region.now
+region s = in_mask s.args.system.local.region.words.now
 
 abbrev pairs : Start → ℕ → ℕ → Bool
-pairs s = side_holds s.args.row_word_ptr.now s.args.word_indices.now s.args.masks.now
+pairs s = side_holds s.args.system.local.rows.row_word_ptr.now s.args.system.local.rows.word_indices.now s.args.system.local.rows.masks.now
 
 abbrev lists : Start → List (List ℕ)
-lists s = pair_entries s.args.n (region s) (pairs s) s.args.row_ptr.now s.args.col_idx.now
+lists s = pair_entries s.args.system.local.region.len (region s) (pairs s) s.args.system.matrix.row_ptr.now s.args.system.matrix.col_idx.now
 
 abbrev check : Start → Check
 check s =
-    plan_check (binding_check s.args.n (region s) (pairs s) (stored s.args.row_ptr.now s.args.col_idx.now)) s.args.n (region s) (pairs s) (lists s) s.args.nodes.now s.args.local_ptr.now s.args.local_cols.now s.args.source_ptr.now s.args.sources.now
+    plan_check (binding_check s.args.system.local.region.len (region s) (pairs s) (stored s.args.system.matrix.row_ptr.now s.args.system.matrix.col_idx.now)) s.args.system.local.region.len (region s) (pairs s) (lists s) s.args.nodes.now s.args.local_ptr.now s.args.local_cols.now s.args.source_ptr.now s.args.sources.now
 
 -- the lists hold a plan, so it is not refused
 made : (s : Start) → check s ≡ Ok tt
-made s = held-accepted s.args.n s.args.row_word_ptr.now s.args.word_indices.now s.args.masks.now s.args.row_ptr.now s.args.col_idx.now s.args.region.now s.args.nodes.now s.args.local_ptr.now s.args.local_cols.now s.args.source_ptr.now s.args.sources.now s.requires
+made s = held-accepted s.args.system.local.region.len s.args.system.local.rows.row_word_ptr.now s.args.system.local.rows.word_indices.now s.args.system.local.rows.masks.now s.args.system.matrix.row_ptr.now s.args.system.matrix.col_idx.now s.args.system.local.region.words.now s.args.nodes.now s.args.local_ptr.now s.args.local_cols.now s.args.source_ptr.now s.args.sources.now s.requires
 
 pub returns-in-Err : goal.returns-in-Err
 returns-in-Err c =
     let s = (goal.at.returns-in-Err c).Start in
-    absurd (plan-made (check s) c.args.n (region s) (lists s) _ (made s) (sym c.prepare.ensures.value ∙ c.in-Err.is))
+    absurd (plan-made (check s) c.args.system.local.region.len (region s) (lists s) _ (made s) (sym c.prepare.ensures.value ∙ c.in-Err.is))
 
 pub returns-in-Ok-clause-value : goal.returns-in-Ok-clause-value
 returns-in-Ok-clause-value c =
     let s = (goal.at.returns-in-Ok-clause-value c).Start in
-    let stats = plan-accepted (check s) c.args.n (region s) (lists s) _ (sym c.prepare.ensures.value ∙ c.in-Ok.is) in
-    cc (stats.1, held-terms c.args.n c.args.row_word_ptr.now c.args.word_indices.now c.args.masks.now c.args.row_ptr.now c.args.col_idx.now c.args.region.now c.requires.inputs)
+    let stats = plan-accepted (check s) c.args.system.local.region.len (region s) (lists s) _ (sym c.prepare.ensures.value ∙ c.in-Ok.is) in
+    cc (stats.1, held-terms c.args.system.local.region.len c.args.system.local.rows.row_word_ptr.now c.args.system.local.rows.word_indices.now c.args.system.local.rows.masks.now c.args.system.matrix.row_ptr.now c.args.system.matrix.col_idx.now c.args.system.local.region.words.now c.requires.inputs)

@@ -10,54 +10,54 @@ use Rattle.side_sets.proofs.inner.combine.Goals.{After-combine_row-end}
 use Rattle.side_sets.proofs.inner.combine.Goals as goal
 
 pub loop-row-init : goal.loop-row-init
-loop-row-init c = sofar-none _ _ _ c.args.row_word_ptr.now _ _ (omega (arith, c.requires.2))
+loop-row-init c = sofar-none _ _ _ c.args.row_word_ptr.now _ _ (omega (arith, c.requires.1))
 
 pub combine_row-end-requires : goal.combine_row-end-requires
 combine_row-end-requires c =
     let s = c.loop-row.invariant in
-    let u = own_at c.requires.0 _ c.loop-row-test.true in
-    let v = own_at c.requires.1 _ c.loop-row-test.true in
-    (u, v, omega (arith, s.high, u.order, v.order, u.masks_long, v.masks_long, s.idx_kept.long, c.requires.3), omega (arith, s.high, u.order, v.order, u.masks_long, v.masks_long, s.masks_kept.long, c.requires.4))
+    let u = own_at c.args.a.accepted _ c.loop-row-test.true in
+    let v = own_at c.requires.0 _ c.loop-row-test.true in
+    (u, v, omega (arith, s.high, u.order, v.order, u.masks_long, v.masks_long, s.idx_kept.long, c.requires.2), omega (arith, s.high, u.order, v.order, u.masks_long, v.masks_long, s.masks_kept.long, c.requires.3))
 
-row : (c : After-combine_row-end) → NewRow (pairwise_pairs (on c.args.op) (side_holds c.args.ptr_a.now c.args.words_a.now c.args.masks_a.now) (side_holds c.args.ptr_b.now c.args.words_b.now c.args.masks_b.now) c.loop-row.row)
-    c.loop-row.word_indices c.loop-row.masks c.combine_row-end.new.word_indices c.combine_row-end.new.masks c.loop-row.to c.combine_row-end.result (both c.args.ptr_a.now c.args.ptr_b.now (c.loop-row.row + 1))
-row c = new_row (on c.args.op) (off c.args.op) c.requires.0 c.requires.1 _ c.loop-row-test.true c.loop-row.invariant.high c.combine_row-end.ensures
+row : (c : After-combine_row-end) → NewRow (pairwise_pairs (on c.args.op) (side_holds c.args.a.row_word_ptr.now c.args.a.word_indices.now c.args.a.masks.now) (side_holds c.args.b.row_word_ptr.now c.args.b.word_indices.now c.args.b.masks.now) c.loop-row.row)
+    c.loop-row.word_indices c.loop-row.masks c.combine_row-end.new.word_indices c.combine_row-end.new.masks c.loop-row.to c.combine_row-end.result (both c.args.a.row_word_ptr.now c.args.b.row_word_ptr.now (c.loop-row.row + 1))
+row c = new_row (on c.args.op) (off c.args.op) c.args.a.accepted c.requires.0 _ c.loop-row-test.true c.loop-row.invariant.high c.combine_row-end.ensures
 
 -- the new end is not past the words of both sides
-inside : (c : After-combine_row-end) → c.combine_row-end.result ≤ length c.args.masks_a.now + length c.args.masks_b.now
-inside c = omega (arith, (row c).high, limit-in (on c.args.op) (off c.args.op) c.requires.0 c.requires.1 c.loop-row.row c.loop-row-test.true)
+inside : (c : After-combine_row-end) → c.combine_row-end.result ≤ length c.args.a.masks.now + length c.args.b.masks.now
+inside c = omega (arith, (row c).high, limit-in (on c.args.op) (off c.args.op) c.args.a.accepted c.requires.0 c.loop-row.row c.loop-row-test.true)
 
 pub count_bits-requires : goal.count_bits-requires
 count_bits-requires c =
     let w = (goal.at.count_bits-requires c).After-combine_row-end in
     let g = c.combine_row-end.ensures in
     let s = c.loop-row.invariant in
-    let m : c.combine_row-end.result ≤ length c.combine_row-end.new.masks = omega (arith, inside w, g.masks_kept.long, s.masks_kept.long, c.requires.4) in
-    (g.low, m, row-few (on c.args.op) (off c.args.op) c.requires.0 c.requires.1 _ c.loop-row-test.true s.high g (omega (arith, inside w, g.idx_kept.long, s.idx_kept.long, c.requires.3)) m)
+    let m : c.combine_row-end.result ≤ length c.combine_row-end.new.masks = omega (arith, inside w, g.masks_kept.long, s.masks_kept.long, c.requires.3) in
+    (g.low, m, row-few (on c.args.op) (off c.args.op) c.args.a.accepted c.requires.0 _ c.loop-row-test.true s.high g (omega (arith, inside w, g.idx_kept.long, s.idx_kept.long, c.requires.2)) m)
 
 pub overflow_add-pairs : goal.overflow_add-pairs
 overflow_add-pairs c =
     let w = (goal.at.overflow_add-pairs c).After-combine_row-end in
-    omega (arith, inside w, c.requires.0.shape.few_words, c.requires.1.shape.few_words, pairs-few c.loop-row.invariant (row w) _ c.count_bits.ensures)
+    omega (arith, inside w, c.args.a.accepted.shape.few_words, c.requires.0.shape.few_words, pairs-few c.loop-row.invariant (row w) _ c.count_bits.ensures)
 
 pub overflow_cast-row_word_ptr : goal.overflow_cast-row_word_ptr
-overflow_cast-row_word_ptr c = omega (arith, inside (goal.at.overflow_cast-row_word_ptr c).After-combine_row-end, c.requires.0.shape.few_words, c.requires.1.shape.few_words)
+overflow_cast-row_word_ptr c = omega (arith, inside (goal.at.overflow_cast-row_word_ptr c).After-combine_row-end, c.args.a.accepted.shape.few_words, c.requires.0.shape.few_words)
 
 pub loop-row-preserved : goal.loop-row-preserved
 loop-row-preserved c =
     let h = c.loop-row-test.true in
-    let e = limit-in (on c.args.op) (off c.args.op) c.requires.0 c.requires.1 c.loop-row.row h in
-    sofar-next c.loop-row.invariant (row (goal.at.loop-row-preserved c).After-combine_row-end) (small (on c.args.op) (off c.args.op) c.requires.0 c.requires.1 c.loop-row.row h)
-    (omega (arith, e, c.requires.3)) (omega (arith, e, c.requires.4)) (omega (arith, length-set {A = ℕ}, c.requires.2)) _ c.count_bits.ensures
+    let e = limit-in (on c.args.op) (off c.args.op) c.args.a.accepted c.requires.0 c.loop-row.row h in
+    sofar-next c.loop-row.invariant (row (goal.at.loop-row-preserved c).After-combine_row-end) (small (on c.args.op) (off c.args.op) c.args.a.accepted c.requires.0 c.loop-row.row h)
+    (omega (arith, e, c.requires.2)) (omega (arith, e, c.requires.3)) (omega (arith, length-set {A = ℕ}, c.requires.1)) _ c.count_bits.ensures
 
 pub returns : goal.returns
 returns c =
-    let n : c.loop-row.row ≡ c.args.nrows = omega arith in
+    let n : c.loop-row.row ≡ c.args.a.nrows = omega arith in
     let w = rw n at c.loop-row.invariant in
-    let high : both c.args.ptr_a.now c.args.ptr_b.now c.args.nrows ≤ length c.args.masks_a.now + length c.args.masks_b.now = omega (arith, c.requires.0.shape.ends, c.requires.1.shape.ends) in
+    let high : both c.args.a.row_word_ptr.now c.args.b.row_word_ptr.now c.args.a.nrows ≤ length c.args.a.masks.now + length c.args.b.masks.now = omega (arith, c.args.a.accepted.shape.ends, c.requires.0.shape.ends) in
     record {
-      value = end-counts high c.requires.3 c.requires.4 w;
-      pointers = end-pointers _ c.requires.2 w;
-      words = end-words high c.requires.3 c.requires.4 w _ (c.fill.ensures.after (λ y k. k));
-      masked = end-masks high c.requires.3 c.requires.4 w _ (c.fill-2.ensures.after (λ y k. k));
+      value = end-counts high c.requires.2 c.requires.3 w;
+      pointers = end-pointers _ c.requires.1 w;
+      words = end-words high c.requires.2 c.requires.3 w _ (c.fill.ensures.after (λ y k. k));
+      masked = end-masks high c.requires.2 c.requires.3 w _ (c.fill-2.ensures.after (λ y k. k));
     }

@@ -7,5 +7,5 @@ use Rattle.side_sets.proofs.inner.combine.Given as goal
 
 abbrev pub invariant-loop-row : goal.invariant-loop-row
 invariant-loop-row l =
-    Sofar l.ncols (pairwise_pairs (on l.op) (side_holds l.ptr_a l.words_a l.masks_a) (side_holds l.ptr_b l.words_b l.masks_b)) (both l.ptr_a l.ptr_b)
+    Sofar l.a.ncols (pairwise_pairs (on l.op) (side_holds l.a.row_word_ptr.now l.a.word_indices.now l.a.masks.now) (side_holds l.b.row_word_ptr.now l.b.word_indices.now l.b.masks.now)) (both l.a.row_word_ptr.now l.b.row_word_ptr.now)
     l.row l.to l.pairs l.initial.row_word_ptr l.initial.word_indices l.initial.masks l.row_word_ptr l.word_indices l.masks

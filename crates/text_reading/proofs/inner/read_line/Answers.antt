@@ -1,39 +1,25 @@
 -- `text_reading::inner::read_line` meets its contract. Assumes nothing.
-use mathlib.Core.Path.{sym, ◌∙◌}
-use Prim.Native.Nat.{◌≤◌, ◌<◌}
-use native.Mathlib.Omega.{arith}
-use lib.ListN.{length}
-use lib.Seq.{length-take-le}
-use Rattle.text_reading.proofs.Lines.{same_start, line-within, line-value, line-found, line-missing, next-found, next-missing}
+use Rattle.std.proofs.Common.{◌&&◌, List, ℕ, length, take, drop, ap, ap₂, ◌∙◌}
+use Rattle.base.specs.Lists.{same_list}
+use Rattle.text_writing.specs.Text.{newline}
+use Rattle.text_reading.specs.Reading.{is_line, value_of}
+use Rattle.text_reading.proofs.Parts.{behind-none}
+use Rattle.text_reading.proofs.Lines.{same_start, rest-from, seen-some, seen-or}
 use Rattle.text_reading.proofs.inner.read_line.Goals as goal
 
-pub slice_bounds-starts_with-end : goal.slice_bounds-starts_with-end
-slice_bounds-starts_with-end c = sym (length-take-le c.find-to.result c.args.text.now (line-within c.args.key.now c.args.text.now c.find-to.result c.find-to.ensures))
-
-pub returns-then-to-text : goal.returns-then-to-text
-returns-then-to-text c =
+pub returns-clause-good : goal.returns-clause-good
+unfolding is_line
+returns-clause-good c =
     let key = c.args.key.now in
-    let text = c.args.text.now in
-    let to = c.find-to.result in
-    let e = c.find-to.ensures in
-    let h : to < length text = c.if-to-text.true in record {
-      good_value = c.starts_with-good.ensures.value ∙ same_start _ key ∙ line-found key text to e h;
-      from_le_to = (omega (arith, c.min-from.ensures), line-within key text to e);
-      text_value = line-value key text to e c.min-from.result c.min-from.ensures;
-      next_in_bounds = omega arith;
-      text_value_2 = next-found key text to e;
-    }
+    ap₂ ◌&&◌
+    (c.is_some.ensures ∙ seen-some _ _ _ _ c.cut.ensures.back)
+    (c.starts_with.ensures.value ∙ same_start _ key ∙ ap (λ (l : List ℕ). same_list (take (length key) l) key) c.cut.ensures.front)
 
-pub returns-else-to-text : goal.returns-else-to-text
-returns-else-to-text c =
-    let key = c.args.key.now in
-    let text = c.args.text.now in
-    let to = c.find-to.result in
-    let e = c.find-to.ensures in
-    let h : length text ≤ to = c.if-to-text.false in record {
-      good_value = sym (line-missing key text to e h);
-      from_le_to = (omega (arith, c.min-from.ensures), line-within key text to e);
-      text_value = line-value key text to e c.min-from.result c.min-from.ensures;
-      next_in_bounds = line-within key text to e;
-      text_value_2 = next-missing key text to e h;
-    }
+pub returns-clause-value : goal.returns-clause-value
+unfolding value_of
+returns-clause-value c =
+    let n = length c.args.key.now in
+    rest-from n c.min-from.result c.cut.result.0.now c.min-from.ensures ∙ ap (drop n) c.cut.ensures.front
+
+pub returns-clause-rest : goal.returns-clause-rest
+returns-clause-rest c = seen-or _ _ _ _ _ _ c.cut.ensures.back (behind-none newline c.args.text.now) c.unwrap_or_default.ensures

@@ -2,5 +2,5 @@
 use Rattle.growths.proofs.Growing.{field-own}
 use Rattle.growths.proofs.inner.FieldsGrower.once.Goals as goal
 
-pub returns-in-Ok-clause-own : goal.returns-in-Ok-clause-own
-returns-in-Ok-clause-own c = field-own _ _ _ _ _ _ _ _
+pub returns-clause-own : goal.returns-clause-own
+returns-clause-own c = field-own _ _ _ _ _ _ _ _

@@ -2,5 +2,5 @@
 use Rattle.growths.proofs.Growing.{plain-own}
 use Rattle.growths.proofs.inner.PlainGrower.once.Goals as goal
 
-pub returns-in-Ok-clause-own : goal.returns-in-Ok-clause-own
-returns-in-Ok-clause-own c = plain-own _ _ _ _ _ _ _ _
+pub returns-clause-own : goal.returns-clause-own
+returns-clause-own c = plain-own _ _ _ _ _ _ _ _

@@ -6,5 +6,6 @@ use Rattle.text_writing.proofs.inner.RefSliceU32Text.put.Given as goal
 
 abbrev pub invariant-loop-x : goal.invariant-loop-x
 invariant-loop-x l =
-    (l.place ≡ l.at + length (numbers (take (l.x-index + 1) l.self)))
-    × (l.out ≡ placed l.at (numbers (take (l.x-index + 1) l.self)) l.fn.out)
+    (l.out.bytes.ghost_name ≡ l.fn.out.bytes.ghost_name)
+    × (l.out.len ≡ l.fn.out.len + length (numbers (take (l.x-index + 1) l.self)))
+    × (l.out.bytes.now ≡ placed l.fn.out.len (numbers (take (l.x-index + 1) l.self)) l.fn.out.bytes.now)

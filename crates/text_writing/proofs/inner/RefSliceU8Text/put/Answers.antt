@@ -4,6 +4,6 @@ use Rattle.std.proofs.lemmas.Grind.{common_steps}
 use Rattle.base.specs.Lists.{placed}
 use Rattle.text_writing.proofs.inner.RefSliceU8Text.put.Goals as goal
 
-pub returns-clause-out_after : goal.returns-clause-out_after
+pub returns-clause-bytes : goal.returns-clause-bytes
 unfolding placed
-returns-clause-out_after c = grind (arith, common_steps)
+returns-clause-bytes c = grind (arith, common_steps)

@@ -1,0 +1,27 @@
+-- What document 01 says of a layout that is lent.
+use Rattle.std.specs.Prelude.{ℕ}
+use Rattle.base.specs.Checks.{Check}
+use Rattle.dof_layout.specs.declared.FieldBlocks.{FieldBlocks}
+use Rattle.dof_layout.specs.declared.FieldAwareDofLayout.{FieldAwareDofLayout}
+use Rattle.dof_layout.specs.Layout.{total_of, blocks_check, layout_check, IsLayout}
+use Rattle.dof_layout.specs.Answers.{square_check}
+
+-- 14, 11, then block by block
+abbrev pub check_blocks : FieldBlocks → Check
+check_blocks b = blocks_check b.entity_kinds.now b.entity_ids.now b.field_ids.now b.components.now
+
+-- its blocks, then 26
+abbrev pub check_layout : FieldAwareDofLayout → Check
+check_layout l = layout_check l.blocks.entity_kinds.now l.blocks.entity_ids.now l.blocks.field_ids.now l.blocks.components.now l.offsets.now
+
+-- and 18: its total against a matrix's sides
+abbrev pub check_square : FieldAwareDofLayout → ℕ → ℕ → Check
+check_square l = square_check l.blocks.entity_kinds.now l.blocks.entity_ids.now l.blocks.field_ids.now l.blocks.components.now l.offsets.now
+
+-- what is known of one that its check accepts
+abbrev pub SoundLayout : FieldAwareDofLayout → Type 0
+SoundLayout l = IsLayout l.blocks.entity_kinds.now l.blocks.entity_ids.now l.blocks.field_ids.now l.blocks.components.now l.offsets.now
+
+-- how many nodes it has
+abbrev pub total : FieldAwareDofLayout → ℕ
+total l = total_of l.blocks.components.now

@@ -1,8 +1,0 @@
--- `field_region::inner::grow_blocks` meets its contract. The invariant: the masks and sums after k hops, none of them on an empty frontier. Assumes nothing.
-use Rattle.side.specs.Side.{side_holds}
-use Rattle.graph.specs.Network.{field_network}
-use Rattle.growth.proofs.Growing.{Growing}
-use Rattle.field_region.proofs.inner.grow_blocks.Given as goal
-
-abbrev pub invariant-loop-k : goal.invariant-loop-k
-invariant-loop-k l = Growing (field_network l.components (side_holds l.row_word_ptr l.row_word_indices l.row_masks)) l.seeds l.hops l.k l.region l.frontier l.scratch l.some l.visits

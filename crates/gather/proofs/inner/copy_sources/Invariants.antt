@@ -1,8 +1,0 @@
--- `gather::inner::copy_sources` meets its contract. The invariant: the values of the first sources stand over the front of the lent list. Assumes nothing.
-use mathlib.Core.Path.{◌≡◌}
-use Rattle.base.specs.Lists.{written}
-use Rattle.gather.specs.Gather.{values_of}
-use Rattle.gather.proofs.inner.copy_sources.Given as goal
-
-abbrev pub invariant-loop-i : goal.invariant-loop-i
-invariant-loop-i l = l.out ≡ written l.i (values_of l.values l.sources) l.initial.out

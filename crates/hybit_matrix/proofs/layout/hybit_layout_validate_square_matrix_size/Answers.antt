@@ -1,7 +1,0 @@
--- `hybit_matrix::layout::hybit_layout_validate_square_matrix_size` meets its contract. Assumes nothing.
-use mathlib.Core.Path.{ap, ◌∙◌}
-use Rattle.hybit_matrix.specs.Flat.{flat_of_checked}
-use Rattle.hybit_matrix.proofs.layout.hybit_layout_validate_square_matrix_size.Goals as goal
-
-pub returns : goal.returns
-returns c = c.flat_checked.ensures ∙ ap flat_of_checked c.validate_square_matrix_size.ensures

@@ -1,7 +1,0 @@
--- `mask::inner::next_member`: no member from `from` up to word w.
-use Rattle.std.proofs.Common.{◌*◌}
-use Rattle.mask.proofs.Nexts.{NoMember}
-use Rattle.mask.proofs.inner.next_member.Given as goal
-
-abbrev pub invariant-loop-w : goal.invariant-loop-w
-invariant-loop-w l = NoMember l.words l.from (64 * l.w)

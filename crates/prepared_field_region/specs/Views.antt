@@ -1,0 +1,57 @@
+-- What document 01 says of a matrix, a layout and seeds that are lent.
+use Rattle.std.specs.Prelude.{◌≡◌, Bool, List, ℕ, length}
+use Rattle.base.specs.Checks.{Check}
+use Rattle.csr32.specs.declared.Csr32Matrix.{Csr32Matrix}
+use Rattle.csr32.specs.Matrix.{IsMatrix}
+use Rattle.csr32.specs.Views.{check_matrix}
+use Rattle.mask.specs.declared.DofMask.{DofMask}
+use Rattle.mask.specs.Mask.{IsMask}
+use Rattle.dof_layout.specs.declared.FieldAwareDofLayout.{FieldAwareDofLayout}
+use Rattle.dof_layout.specs.Views.{check_square, total, SoundLayout}
+use Rattle.graph.specs.Network.{Network}
+use Rattle.field_region.specs.Views.{check_owning}
+use Rattle.cutting.specs.Cut.{network_of, region_of, lists_of}
+use Rattle.prepared_field_region.specs.Prepared.{prepare_room, prepare_inputs, prepare_check, block_owners_check, prepared_of}
+use Rattle.prepared_field_region.specs.declared.PreparedFieldAwareLocalRegion.{PreparedFieldAwareLocalRegion}
+
+-- the matrix, the layout with 18, the mask
+abbrev pub check_lent : Csr32Matrix → FieldAwareDofLayout → DofMask → Check
+check_lent m l s = prepare_inputs (check_matrix m) (check_square l m.nrows m.ncols) m.nrows s.len s.words.now
+
+-- then 25, with the lists as they are lent
+abbrev pub check_prepare : Csr32Matrix → FieldAwareDofLayout → DofMask → List ℕ → List ℕ → List ℕ → List ℕ → List ℕ → List ℕ → List ℕ → List ℕ → List ℕ → List ℕ → List ℕ → List ℕ → List ℕ → List ℕ → List ℕ → List ℕ → Check
+check_prepare m l s rptr ridx rmasks cptr cidx cmasks starts order region frontier scratch nodes pointers columns source_pointers sources =
+    prepare_check (check_lent m l s)
+    (prepare_room m.nrows m.ncols (length m.col_idx.now) (length rptr) (length ridx) (length rmasks) (length cptr) (length cidx) (length cmasks) (length starts) (length order) (length region) (length frontier) (length scratch) (length nodes) (length pointers) (length columns) (length source_pointers) (length sources))
+
+-- the matrix, the layout with 18, then the whole check of field_block_owners
+abbrev pub check_block_owners : Csr32Matrix → FieldAwareDofLayout → List ℕ → ℕ → List ℕ → Check
+check_block_owners m l owners ranks out = block_owners_check (check_matrix m) (check_square l m.nrows m.ncols) (check_owning l owners ranks out)
+
+-- ---- what a region is prepared from, and what is prepared
+
+abbrev pub network : Csr32Matrix → FieldAwareDofLayout → Network
+network m l = network_of m.row_ptr.now m.col_idx.now l.blocks.components.now
+
+abbrev pub grown : Csr32Matrix → FieldAwareDofLayout → DofMask → ℕ → ℕ → Bool
+grown m l s h = region_of m.row_ptr.now m.col_idx.now l.blocks.components.now s.words.now h
+
+abbrev pub lists : Csr32Matrix → FieldAwareDofLayout → DofMask → ℕ → List (List ℕ)
+lists m l s h = lists_of m.nrows (grown m l s h) m.row_ptr.now m.col_idx.now
+
+abbrev pub prepared : Csr32Matrix → FieldAwareDofLayout → DofMask → ℕ → PreparedFieldAwareLocalRegion
+prepared m l s h = prepared_of m.nrows m.ncols m.row_ptr.now m.col_idx.now l.blocks.components.now s.words.now h
+
+-- ---- what is known where the checks accept
+
+-- a square matrix, and a layout of its nodes
+pub record SoundSystem (m : Csr32Matrix) (l : FieldAwareDofLayout) : Type 0 where
+  pub matrix : IsMatrix m.nrows m.ncols m.row_ptr.now m.col_idx.now
+  pub square : m.ncols ≡ m.nrows
+  pub sized : m.nrows ≡ total l
+  pub layout : SoundLayout l
+
+-- and a mask of them
+pub record SoundInputs (m : Csr32Matrix) (l : FieldAwareDofLayout) (s : DofMask) : Type 0 where
+  pub system : SoundSystem m l
+  pub mask : IsMask m.nrows s.words.now

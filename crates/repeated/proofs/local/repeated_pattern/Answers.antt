@@ -1,0 +1,46 @@
+-- `repeated::local::repeated_pattern` meets its contract: the lists that the checked pattern left are written again with the same. Assumes
+-- nothing.
+use mathlib.Core.Path.{◌≡◌, sym, ◌∙◌}
+use Rattle.std.specs.Prelude.{Ok}
+use mathlib.Core.Bool.{Bool}
+use Prim.Native.Nat.{ℕ}
+use native.Mathlib.Omega.{arith}
+use Rattle.base.specs.Sets.{members_below}
+use Rattle.mask.specs.Mask.{in_mask}
+use Rattle.side.specs.Side.{side_holds}
+use Rattle.dual_topology.specs.Check.{topology_check}
+use Rattle.pattern.specs.Pattern.{pattern_check, pattern_ptr, pattern_columns}
+use Rattle.pattern.proofs.Accepted.{Accepts, Fits, accepted-pattern}
+use Rattle.repeated.proofs.Rewriting.{holds, pattern-accepted}
+use Rattle.repeated.proofs.local.repeated_pattern.Goals.{In-Ok, Start}
+use Rattle.repeated.proofs.local.repeated_pattern.Goals as goal
+
+-- in this arm the checks accepted
+module _ (c : In-Ok) where
+  abbrev s : Start
+  s = (goal.at.In-Ok c).Start
+
+  abbrev pairs : ℕ → ℕ → Bool
+  pairs = side_holds s.args.topology.rows.row_word_ptr.now s.args.topology.rows.word_indices.now s.args.topology.rows.masks.now
+
+  ok : pattern_check (topology_check s.args.topology.rows.nrows s.args.topology.rows.ncols s.args.topology.rows.row_word_ptr.now s.args.topology.rows.word_indices.now s.args.topology.rows.masks.now s.args.topology.rows.structural_nnz s.args.topology.columns.nrows s.args.topology.columns.ncols s.args.topology.columns.row_word_ptr.now s.args.topology.columns.word_indices.now s.args.topology.columns.masks.now s.args.topology.columns.structural_nnz) s.args.topology.rows.nrows s.args.topology.rows.ncols s.args.mask.len s.args.mask.words.now pairs s.args.global_nodes.now s.args.row_ptr.now s.args.col_idx.now ≡ Ok tt
+  ok = pattern-accepted _ s.args.topology.rows.nrows (in_mask s.args.mask.words.now) pairs _ (sym c.extract_local_submatrix_pattern.ensures.value ∙ c.in-Ok.is)
+
+  good : Accepts s.args.topology.rows.nrows s.args.topology.rows.row_word_ptr.now s.args.topology.rows.word_indices.now s.args.topology.rows.masks.now s.args.topology.columns.row_word_ptr.now s.args.topology.columns.word_indices.now s.args.topology.columns.masks.now s.args.mask.words.now
+      × Fits s.args.topology.rows.nrows (in_mask s.args.mask.words.now) pairs s.args.global_nodes.now s.args.row_ptr.now s.args.col_idx.now
+  good =
+      accepted-pattern s.args.topology.rows.nrows s.args.topology.rows.ncols s.args.topology.rows.row_word_ptr.now s.args.topology.rows.word_indices.now s.args.topology.rows.masks.now s.args.topology.rows.structural_nnz s.args.topology.columns.nrows s.args.topology.columns.ncols s.args.topology.columns.row_word_ptr.now s.args.topology.columns.word_indices.now s.args.topology.columns.masks.now s.args.topology.columns.structural_nnz s.args.mask.len s.args.mask.words.now pairs s.args.global_nodes.now s.args.row_ptr.now s.args.col_idx.now c.requires.rows c.requires.columns c.requires.mask ok
+
+pub invariant_of-rows : goal.invariant_of-rows
+invariant_of-rows c = record { accepted = (good (goal.at.invariant_of-rows c).In-Ok).0.topology.rows }
+
+pub invariant_of-region : goal.invariant_of-region
+invariant_of-region c = record { accepted = (good (goal.at.invariant_of-region c).In-Ok).0.mask }
+
+pub repeat_pattern-requires : goal.repeat_pattern-requires
+repeat_pattern-requires c =
+    let e = ok (goal.at.repeat_pattern-requires c).In-Ok in
+    let f = (good (goal.at.repeat_pattern-requires c).In-Ok).1 in
+    let p = in_mask c.args.mask.words.now in
+    let left = c.extract_local_submatrix_pattern.ensures in
+    (omega (arith, f.nodes_room), omega (arith, f.ptr_room), omega (arith, f.columns_room), holds _ (members_below c.args.topology.rows.nrows p) c.args.global_nodes.now _ e left.members, holds _ (pattern_ptr c.args.topology.rows.nrows p (pairs (goal.at.repeat_pattern-requires c).In-Ok)) c.args.row_ptr.now _ e left.pointers, holds _ (pattern_columns c.args.topology.rows.nrows p (pairs (goal.at.repeat_pattern-requires c).In-Ok)) c.args.col_idx.now _ e left.columns)

@@ -1,7 +1,0 @@
--- `side::inner::row_rank` meets its contract. Assumes nothing.
-use native.Mathlib.Omega.{arith}
-use Rattle.side.proofs.AtRow.{at_up, at_words, at-masks, at-few, at_row}
-use Rattle.side.proofs.inner.row_rank.Goals as goal
-
-pub rank-requires : goal.rank-requires
-rank-requires c = (at_up _ _ _ _ _ c.requires.0 _ c.requires.1, at_words _ _ _ _ _ c.requires.0 _ c.requires.1, at-masks _ _ _ _ _ c.requires.0 _ c.requires.1, at_row _ _ _ _ _ c.requires.0 _ c.requires.1, at-few _ _ _ _ _ c.requires.0 _ c.requires.1, omega (arith, c.requires.2, c.requires.0.few_cols))

@@ -1,0 +1,27 @@
+-- What document 01 says of a side, of one that is lent and of one that was accepted.
+use Rattle.std.specs.Prelude.{◌≡◌, Bool, ℕ, ◌≤◌, length}
+use Rattle.base.specs.Checks.{Check, side_limit, entry_limit}
+use Rattle.side.specs.declared.AbtmTopology.{AbtmTopology}
+use Rattle.side.specs.declared.inner.Side.{Side}
+use Rattle.side.specs.Side.{side_holds}
+use Rattle.side.specs.Check.{side_check, bits_in, IsSide}
+
+-- 1, 9
+abbrev pub check_side : AbtmTopology → Check
+check_side t = side_check t.nrows t.ncols t.row_word_ptr.now t.word_indices.now t.masks.now t.structural_nnz
+
+-- row r is paired with column c
+abbrev pub holds : AbtmTopology → ℕ → ℕ → Bool
+holds t = side_holds t.row_word_ptr.now t.word_indices.now t.masks.now
+
+abbrev pub pairs : Side → ℕ → ℕ → Bool
+pairs s = side_holds s.row_word_ptr.now s.word_indices.now s.masks.now
+
+-- it is within the limits of refusal 1
+abbrev pub WithinLimits : AbtmTopology → Type 0
+WithinLimits t = (t.nrows ≤ side_limit) × (t.ncols ≤ side_limit) × (length t.masks.now ≤ entry_limit) × (t.structural_nnz ≤ entry_limit)
+
+-- what is known of a side that its check accepts: it is one, and its pair count is right
+abbrev pub SoundSide : AbtmTopology → Type 0
+SoundSide t =
+    IsSide t.nrows t.ncols t.row_word_ptr.now t.word_indices.now t.masks.now × (t.structural_nnz ≡ bits_in t.masks.now 0 (length t.masks.now))

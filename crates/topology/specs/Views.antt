@@ -1,0 +1,23 @@
+-- The checks of the calls on matrices and sides as they are lent.
+use Rattle.std.specs.Prelude.{List, ℕ}
+use Rattle.base.specs.Checks.{Check}
+use Rattle.csr32.specs.declared.Csr32Matrix.{Csr32Matrix}
+use Rattle.side.specs.declared.AbtmTopology.{AbtmTopology}
+use Rattle.side.specs.Check.{IsSide}
+use Rattle.topology.specs.Answers.{build_check, sets_check}
+
+-- from_csr32, with the lengths of the three lists
+abbrev pub check_build : Csr32Matrix → List ℕ → List ℕ → List ℕ → Check
+check_build m = build_check m.nrows m.ncols m.row_ptr.now m.col_idx.now m.values.now
+
+-- a set operation, with the lengths of the three lists
+abbrev pub check_sets : AbtmTopology → AbtmTopology → List ℕ → List ℕ → List ℕ → Check
+check_sets a b =
+    sets_check a.nrows a.ncols a.row_word_ptr.now a.word_indices.now a.masks.now a.structural_nnz
+    b.nrows b.ncols b.row_word_ptr.now b.word_indices.now b.masks.now b.structural_nnz
+
+-- two sides of one shape that their check accepts
+abbrev pub SoundSides : AbtmTopology → AbtmTopology → Type 0
+SoundSides a b =
+    IsSide a.nrows a.ncols a.row_word_ptr.now a.word_indices.now a.masks.now
+    × IsSide a.nrows a.ncols b.row_word_ptr.now b.word_indices.now b.masks.now
