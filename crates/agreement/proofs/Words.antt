@@ -1,13 +1,10 @@
 -- The columns of a row, word by word and bit by bit: whether all of them are in a set. Assumes nothing.
 use mathlib.Core.Path.{◌≡◌, refl, sym, ap, ◌∙◌, subst}
-use mathlib.Core.Logic.{◌≢◌}
 use mathlib.Core.Bool.{Bool, true, false, ◌&&◌}
-use mathlib.Core.List.{List}
-use Prim.Native.Nat.{ℕ, ◌+◌, ◌-◌, ◌*◌, ◌/◌, ◌%◌, ◌^◌, ◌≤◌, ◌<◌}
+use mathlib.Core.List.{List, [], ◌∷◌}
+use Prim.Native.Nat.{ℕ, ◌+◌, ◌*◌, ◌/◌, ◌%◌, ◌≤◌, ◌<◌}
 use native.Mathlib.Omega.{arith}
 use borrow.Author.Tests.{lt-ltb, ltb-true}
-use lib.Bits.{bit_and, and_le_l}
-use lib.Count.{count_trailing_zeros}
 use lib.Dec.{T, ltb}
 use lib.ListN.{length, get_or}
 use Rattle.base.specs.Lists.{every}
@@ -16,7 +13,6 @@ use Rattle.base.proofs.Bools.{T_true, T_false, T_of, and_left, and_right, both_w
 use Rattle.base.proofs.Lists.{every-at}
 use Rattle.base.proofs.Sets.{every-members, members-find}
 use Rattle.word.specs.Bits.{bit_at, set_bits}
-use Rattle.word.proofs.Bits.{lowest, no_bits}
 use Rattle.word.proofs.Words.{bit_word}
 use Rattle.side.specs.Check.{is_word_inside}
 use Rattle.side.specs.Row.{Row}
@@ -33,40 +29,38 @@ every-member f p b n e i l u t =
 
 module _ (ncols w : ℕ) (q : ℕ → Bool) where
   -- what is known of the bits that are left of the mask m
-  pub record Walk (m left : ℕ) : Type 0 where
-    pub same : every (λ b. q (64 * w + b)) (set_bits m) ≡ every (λ b. q (64 * w + b)) (set_bits left)
-    pub inside : every (λ b. ltb (64 * w + b) ncols) (set_bits left) ≡ true
-    pub fits : left < 2 ^ 64
+  pub record Walk (m : ℕ) (left : List ℕ) : Type 0 where
+    pub same : every (λ b. q (64 * w + b)) (set_bits m) ≡ every (λ b. q (64 * w + b)) left
+    pub inside : every (λ b. ltb (64 * w + b) ncols) left ≡ true
 
-  pub walk_start : (m : ℕ) → is_word_inside ncols w m ≡ true → m < 2 ^ 64 → Walk m m
-  walk_start m e h = record { same = refl; inside = every-members (λ b. ltb (64 * w + b) ncols) (bit_at m) 0 64 (λ b l u t. in_cols b (omega arith) t); fits = h }
+  pub walk_start : (m : ℕ) → is_word_inside ncols w m ≡ true → Walk m (set_bits m)
+  walk_start m e = record { same = refl; inside = every-members (λ b. ltb (64 * w + b) ncols) (bit_at m) 0 64 (λ b l u t. in_cols b (omega arith) t) }
     where
       in_cols : (b : ℕ) → b < 64 → T (bit_at m b) → ltb (64 * w + b) ncols ≡ true
       in_cols b l t = lt-ltb (64 * w + b) ncols (bit_in ncols w m e b l t)
 
-  module _ (m left : ℕ) (k : Walk m left) where
+  module _ (m : ℕ) (left : List ℕ) (k : Walk m left) where
     -- none is left
-    pub walk_end : left ≡ 0 → every (λ b. q (64 * w + b)) (set_bits m) ≡ true
-    walk_end z = k.same ∙ ap (λ (x : ℕ). every (λ b. q (64 * w + b)) (set_bits x)) z ∙ ap (every (λ b. q (64 * w + b))) (no_bits 64)
+    pub walk_end : left ≡ [] → every (λ b. q (64 * w + b)) (set_bits m) ≡ true
+    walk_end z = k.same ∙ ap (every (λ b. q (64 * w + b))) z
 
-    module _ (ne : left ≢ 0) where
-      first : (f : ℕ → Bool) → every f (set_bits left) ≡ (f (count_trailing_zeros 64 left) && every f (set_bits (bit_and left (left - 1))))
-      first f = ap (every f) (lowest 64 left (omega arith) k.fits)
+    module _ (b : ℕ) (rest : List ℕ) (e : left ≡ b ∷ rest) where
+      first : (f : ℕ → Bool) → every f left ≡ (f b && every f rest)
+      first f = ap (every f) e
 
-      -- the lowest is a column
-      pub walk_col : 64 * w + count_trailing_zeros 64 left < ncols
-      walk_col = ltb-true _ _ (and_left _ (every (λ b. ltb (64 * w + b) ncols) (set_bits (bit_and left (left - 1)))) (sym (first (λ b. ltb (64 * w + b) ncols)) ∙ k.inside))
+      -- the next is a column
+      pub walk_col : 64 * w + b < ncols
+      walk_col = ltb-true _ _ (and_left _ (every (λ b. ltb (64 * w + b) ncols) rest) (sym (first (λ b. ltb (64 * w + b) ncols)) ∙ k.inside))
 
       -- and is in q, or is not
-      pub walk_next : q (64 * w + count_trailing_zeros 64 left) ≡ true → Walk m (bit_and left (left - 1))
-      walk_next e = record {
-        same = k.same ∙ first (λ b. q (64 * w + b)) ∙ ap (λ (t : Bool). t && every (λ b. q (64 * w + b)) (set_bits (bit_and left (left - 1)))) e;
-        inside = and_right (ltb (64 * w + count_trailing_zeros 64 left) ncols) _ (sym (first (λ b. ltb (64 * w + b) ncols)) ∙ k.inside);
-        fits = omega (arith, and_le_l left (left - 1), k.fits);
+      pub walk_next : q (64 * w + b) ≡ true → Walk m rest
+      walk_next t = record {
+        same = k.same ∙ first (λ b. q (64 * w + b)) ∙ ap (λ (x : Bool). x && every (λ b. q (64 * w + b)) rest) t;
+        inside = and_right (ltb (64 * w + b) ncols) _ (sym (first (λ b. ltb (64 * w + b) ncols)) ∙ k.inside);
       }
 
-      pub walk_stop : q (64 * w + count_trailing_zeros 64 left) ≡ false → every (λ b. q (64 * w + b)) (set_bits m) ≡ false
-      walk_stop e = k.same ∙ first (λ b. q (64 * w + b)) ∙ ap (λ (t : Bool). t && every (λ b. q (64 * w + b)) (set_bits (bit_and left (left - 1)))) e
+      pub walk_stop : q (64 * w + b) ≡ false → every (λ b. q (64 * w + b)) (set_bits m) ≡ false
+      walk_stop t = k.same ∙ first (λ b. q (64 * w + b)) ∙ ap (λ (x : Bool). x && every (λ b. q (64 * w + b)) rest) t
 
 -- ---- the words of a row
 

@@ -16,7 +16,8 @@ pub const ENTRY_LIMIT: usize = 16777216;
 
 pub const REGION_LIMIT: usize = 65536;
 
-// Why a call was refused, a case for each number of document 01's table, in its order.
+// Why a call was refused, a case for each number of document 01's table, in its order. It is handed to C as its number and figures, and no program
+// prints it otherwise: it needs no `Debug` and no `Display`.
 #[derive(Clone, Copy, PartialEq, Eq)]
 pub enum Refusal {
     OverLimit,
@@ -48,6 +49,43 @@ pub enum Refusal {
     MalformedJob,
 }
 
+// Its number in document 01.
+impl From<Refusal> for u32 {
+    ghost from_gives = { λ r n. n ≡ refusal_number r };
+
+    fn from(refusal: Refusal) -> u32 {
+        match refusal {
+            Refusal::OverLimit => 1,
+            Refusal::RowPtrLength => 2,
+            Refusal::EntryLengths => 3,
+            Refusal::RowPtrStart => 4,
+            Refusal::RowPtrEnd => 5,
+            Refusal::RowPtrFalls => 6,
+            Refusal::ColumnOutside => 7,
+            Refusal::NotFinite => 8,
+            Refusal::BadTopology => 9,
+            Refusal::NotSquare => 10,
+            Refusal::WrongLength { .. } => 11,
+            Refusal::BitPastLength => 12,
+            Refusal::OutOfRange => 13,
+            Refusal::NoBlock => 14,
+            Refusal::EmptyBlock => 15,
+            Refusal::RepeatedBlock => 16,
+            Refusal::UnknownKind => 17,
+            Refusal::TotalNotSides => 18,
+            Refusal::NoRanks => 19,
+            Refusal::OwnerOutOfRange => 20,
+            Refusal::OwnersDiffer => 21,
+            Refusal::SidesDiffer => 22,
+            Refusal::PairWithoutEntry => 23,
+            Refusal::EntryWithoutPair => 24,
+            Refusal::ListTooShort => 25,
+            Refusal::BadPointers => 26,
+            Refusal::MalformedJob => 27,
+        }
+    }
+}
+
 impl Refusal {
     pub fn wrong_length(expected: usize, actual: usize) -> Self
         ensures { result ≡ Refusal.WrongLength expected actual }
@@ -58,39 +96,11 @@ impl Refusal {
         }
     }
 
-    // Its number in document 01.
+    // Its number, where it stands in a record beside its two figures: by method as those, so that all three are read alike.
     pub fn number(self) -> u32
         ensures { result ≡ refusal_number self }
     {
-        match self {
-            Self::OverLimit => 1,
-            Self::RowPtrLength => 2,
-            Self::EntryLengths => 3,
-            Self::RowPtrStart => 4,
-            Self::RowPtrEnd => 5,
-            Self::RowPtrFalls => 6,
-            Self::ColumnOutside => 7,
-            Self::NotFinite => 8,
-            Self::BadTopology => 9,
-            Self::NotSquare => 10,
-            Self::WrongLength { .. } => 11,
-            Self::BitPastLength => 12,
-            Self::OutOfRange => 13,
-            Self::NoBlock => 14,
-            Self::EmptyBlock => 15,
-            Self::RepeatedBlock => 16,
-            Self::UnknownKind => 17,
-            Self::TotalNotSides => 18,
-            Self::NoRanks => 19,
-            Self::OwnerOutOfRange => 20,
-            Self::OwnersDiffer => 21,
-            Self::SidesDiffer => 22,
-            Self::PairWithoutEntry => 23,
-            Self::EntryWithoutPair => 24,
-            Self::ListTooShort => 25,
-            Self::BadPointers => 26,
-            Self::MalformedJob => 27,
-        }
+        u32::from(self)
     }
 
     // Its first figure: the length that was expected, for 11, else 0.
@@ -114,12 +124,10 @@ impl Refusal {
     }
 }
 
-// A number of a lent list, of 32 or 64 bits.
+// A number of a lent list, of 32 or 64 bits, as it is compared with a bound. `text_reading::Width` and `records::Element` make numbers, and compare
+// none.
 pub trait Number: Copy {
     ghost value: { Self → ℕ };
-
-    fn wide(self) -> usize
-        ensures { result ≡ value self };
 
     fn is_below(self, bound: usize) -> bool
         ensures { result ≡ below bound (value self) };
@@ -128,22 +136,14 @@ pub trait Number: Copy {
 impl Number for u32 {
     ghost value = { λ x. x };
 
-    fn wide(self) -> usize {
-        self as usize
-    }
-
     // In 32 bits, where the bound fits them.
     fn is_below(self, bound: usize) -> bool {
-        bound > 4294967295 || self < bound as u32
+        bound > u32::MAX as usize || self < bound as u32
     }
 }
 
 impl Number for u64 {
     ghost value = { λ x. x };
-
-    fn wide(self) -> usize {
-        self as usize
-    }
 
     fn is_below(self, bound: usize) -> bool {
         self < bound as u64

@@ -15,6 +15,7 @@ pub fn all_below<T: Number>(s: &[T], bound: usize) -> bool
     all
 }
 
+// By index: with the library's `is_sorted` a matrix's check was slower.
 pub fn never_falls(s: &[u32]) -> bool
     ensures { result ≡ rising s.now }
 {

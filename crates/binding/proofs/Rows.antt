@@ -5,11 +5,11 @@ use Rattle.base.specs.Checks.{Check}
 use Rattle.base.specs.declared.Refusal.TheVariants.{PairWithoutEntry, EntryWithoutPair}
 use mathlib.Core.Bool.{Bool, true, false, not, ◌&&◌, ◌||◌, and_assoc}
 use mathlib.Core.List.{List}
-use Prim.Native.Nat.{ℕ, ◌+◌, ◌≤◌, ◌<◌}
+use Prim.Native.Nat.{ℕ, ◌+◌, ◌-◌, ◌≤◌, ◌<◌}
 use native.Mathlib.Omega.{arith}
 use lib.Dec.{T, T_not}
-use lib.ListN.{get_or}
-use lib.Seq.{slice}
+use lib.ListN.{get_or, take, drop}
+use lib.Seq.{slice, get_or-take, get_or-drop}
 use Rattle.base.specs.Checks.{side_limit, checks_below}
 use Rattle.base.specs.Lists.{is_in}
 use Rattle.base.specs.Sets.{any_below, count_below}
@@ -30,6 +30,10 @@ use Rattle.binding.specs.Steps.{Entries}
 -- a matrix's row
 pub row-entries : (n : ℕ) (ptr cols : List ℕ) → IsMatrix n n ptr cols → (r : ℕ) → r < n → Entries n cols (get_or ptr r 0) (get_or ptr (r + 1) 0)
 row-entries n ptr cols m r h = record { few = m.few_entries; up = m.rises r h; within = ptr_le n n ptr cols m (r + 1) (omega arith); inside = m.inside }
+
+-- an entry of a part of the list
+pub part-at : (from to : ℕ) (cols : List ℕ) (i : ℕ) → i < to - from → get_or (take (to - from) (drop from cols)) i 0 ≡ get_or cols (from + i) 0
+part-at from to cols i h = get_or-take (to - from) (drop from cols) i 0 h ∙ get_or-drop from cols i 0
 
 -- ---- a row's mask: empty, then filled by the entries of row r, then without the row's pairs
 

@@ -1,2 +1,3 @@
 pub mod Binding
 pub mod Steps
+pub mod Views

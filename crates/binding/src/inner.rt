@@ -2,11 +2,9 @@
 // row whose words are its entries in order is settled and counted by reading both once. The entries of any other are collected in a mask, `seen`,
 // that is empty before and after each row. Either way a row costs its words and its entries.
 ghost use Rattle.std.specs.Prelude.{◌≡◌, true, false, Some, not, cond, ◌&&◌, ◌||◌, ℕ, ◌+◌, ◌-◌, ◌≤◌, ◌<◌, T, ltb, length, get_or};
-ghost use Rattle.base.specs.Checks.{answer};
-ghost use Rattle.std.proofs.Math.Seq.{slice};
-ghost use Rattle.base.specs.Checks.{entry_limit, after};
+ghost use Rattle.base.specs.Checks.{answer, entry_limit};
 ghost use Rattle.base.specs.Lists.{is_in};
-ghost use Rattle.base.specs.Sets.{any_below, count_below};
+ghost use Rattle.base.specs.Sets.{any_below};
 ghost use Rattle.mask.specs.Mask.{in_mask, mask_words, IsMask};
 ghost use Rattle.mask.specs.Answers.{with_node};
 ghost use Rattle.mask.specs.Views.{nodes};
@@ -14,8 +12,7 @@ ghost use Rattle.csr32.specs.Matrix.{IsMatrix};
 ghost use Rattle.csr32.specs.Views.{entries};
 ghost use Rattle.side.specs.Views.{pairs};
 ghost use Rattle.pattern.specs.Pattern.{inside};
-ghost use Rattle.binding.specs.Binding.{row_faults, binding_check};
-ghost use Rattle.binding.specs.Steps.{RunOf, Followed, has_pair, row_counts, counts_of, sources_inside};
+ghost use Rattle.binding.specs.Steps.{RunOf, sources_inside};
 
 use crate::{Counts, RowCounts, Run};
 use base::Refusal;
@@ -32,8 +29,8 @@ pub struct System<'a> {
 }
 
 // The entries from `from` on that lie in the word, up to the first that does not; `inside` is the region's word. A column is a pair at its first
-// entry, where its bit is not yet taken. No branch tells a member and no bits are counted at the end: the members of a region follow no order, and
-// the baseline x86-64 has no popcount.
+// entry, where its bit is not yet taken. The loop counts entries by number, since where the run ends is asked for. No branch tells a member and no
+// bits are counted at the end: the members of a region follow no order, and the baseline x86-64 has no popcount.
 fn take_word(col_idx: &[u32], from: usize, to: usize, word: usize, inside: u64) -> Run
     requires { (from ≤ to) × (to ≤ length col_idx.now) × (length col_idx.now ≤ entry_limit) }
     ensures { RunOf col_idx.now from to word inside result }
@@ -65,11 +62,13 @@ fn take_word(col_idx: &[u32], from: usize, to: usize, word: usize, inside: u64) 
 }
 
 impl System<'_> {
+    ghost use Rattle.binding.specs.Views.{check_binding, row_check, held, row_held, FollowedRow, row_columns, row_inside, paired_row};
+
     // What row r holds inside the region where its words are its entries, both read once: so it is where the row rises and the topology is the
-    // matrix's own. None says nothing.
+    // matrix's own. None says nothing. A row's words are a position in two lists, as document 01 has it, and so are walked by index here and below.
     fn follow_row(self, r: usize) -> Option<RowCounts>
         requires { r < self.local.region.len }
-        ensures { Followed self.entry.local.region.len (nodes self.entry.local.region) (pairs self.entry.local.rows) self.entry.matrix.row_ptr.now self.entry.matrix.col_idx.now r result }
+        ensures { FollowedRow self.entry r result }
     {
         let from = self.local.rows.row_word_ptr[r] as usize;
         let to = self.local.rows.row_word_ptr[r + 1] as usize;
@@ -93,11 +92,12 @@ impl System<'_> {
         Some(RowCounts { pairs, sources })
     }
 
-    // The same where row r has as many words as entries: each word is one entry then, or there is no answer. What differs is collected and looked
-    // at once, in the end, so that no entry waits for the one before it.
+    // As `follow_row` where row r has as many words as entries: each word is one entry then, or there is no answer. What differs is collected and looked at
+    // once, in the end, so that no entry waits for the one before it. By number: a `zip` of the three slices is no plainer, because its elements are pairs
+    // of pairs.
     fn follow_single(self, r: usize) -> Option<RowCounts>
         requires { (r < self.local.region.len) × (get_or self.local.rows.row_word_ptr.now (r + 1) 0 - get_or self.local.rows.row_word_ptr.now r 0 ≡ get_or self.matrix.row_ptr.now (r + 1) 0 - get_or self.matrix.row_ptr.now r 0) }
-        ensures { Followed self.entry.local.region.len (nodes self.entry.local.region) (pairs self.entry.local.rows) self.entry.matrix.row_ptr.now self.entry.matrix.col_idx.now r result }
+        ensures { FollowedRow self.entry r result }
     {
         let from = self.local.rows.row_word_ptr[r] as usize;
         let first = self.matrix.row_ptr[r] as usize;
@@ -124,7 +124,7 @@ impl System<'_> {
     // Row r in either way.
     fn follow(self, r: usize) -> Option<RowCounts>
         requires { r < self.local.region.len }
-        ensures { Followed self.entry.local.region.len (nodes self.entry.local.region) (pairs self.entry.local.rows) self.entry.matrix.row_ptr.now self.entry.matrix.col_idx.now r result }
+        ensures { FollowedRow self.entry r result }
     {
         let words = self.local.rows.row_word_ptr[r + 1] - self.local.rows.row_word_ptr[r];
         let entries = self.matrix.row_ptr[r + 1] - self.matrix.row_ptr[r];
@@ -138,12 +138,12 @@ impl System<'_> {
     #[tactic(auto, using(crate::proofs::Seen::joining))]
     fn add_entries(self, r: usize, seen: &mut [u64])
         requires { (r < self.local.region.len) × IsMask self.local.region.len seen.old }
-        ensures { seen.new ≡ mask_words self.entry.local.region.len (λ c. in_mask seen.old c || is_in c (slice (get_or self.entry.matrix.row_ptr.now r 0) (get_or self.entry.matrix.row_ptr.now (r + 1) 0) self.entry.matrix.col_idx.now)) }
+        ensures { seen.new ≡ mask_words self.entry.local.region.len (λ c. in_mask seen.old c || is_in c (row_columns self.entry r)) }
     {
         let from = self.matrix.row_ptr[r] as usize;
         let to = self.matrix.row_ptr[r + 1] as usize;
-        for e in from..to {
-            let c = self.matrix.col_idx[e] as usize;
+        for column in &self.matrix.col_idx[from..to] {
+            let c = *column as usize;
             seen[c / AbtmTopologyWord::BITS] |= 1u64 << (c % AbtmTopologyWord::BITS);
         }
     }
@@ -169,15 +169,15 @@ impl System<'_> {
 
     // The mask is emptied; it holds columns of row r's entries alone. Whether one was inside the region.
     fn drain(self, r: usize, seen: &mut [u64]) -> bool
-        requires { (r < self.local.region.len) × IsMask self.local.region.len seen.old × ((c : ℕ) → c < self.local.region.len → T (in_mask seen.old c) → T (is_in c (slice (get_or self.matrix.row_ptr.now r 0) (get_or self.matrix.row_ptr.now (r + 1) 0) self.matrix.col_idx.now))) }
+        requires { (r < self.local.region.len) × IsMask self.local.region.len seen.old × ((c : ℕ) → c < self.local.region.len → T (in_mask seen.old c) → T (is_in c (row_columns self r))) }
         ensures value { result ≡ any_below self.entry.local.region.len (λ c. nodes self.entry.local.region c && in_mask seen.old c) }
         ensures seen_after { seen.new ≡ mask_words self.entry.local.region.len (λ i. false) }
     {
         let from = self.matrix.row_ptr[r] as usize;
         let to = self.matrix.row_ptr[r + 1] as usize;
         let mut extra: u64 = 0;
-        for e in from..to {
-            let w = self.matrix.col_idx[e] as usize / AbtmTopologyWord::BITS;
+        for column in &self.matrix.col_idx[from..to] {
+            let w = *column as usize / AbtmTopologyWord::BITS;
             extra |= seen[w] & self.local.region.words[w];
             seen[w] = 0;
         }
@@ -187,7 +187,7 @@ impl System<'_> {
     // 23, then 24, of row r: what its words do not take from its entries is missing from the topology.
     fn check_row(self, r: usize, seen: &mut [u64]) -> Result<(), Refusal>
         requires { (r < self.local.region.len) × (seen.old ≡ mask_words self.local.region.len (λ i. false)) }
-        ensures value { result ≡ row_faults self.entry.local.region.len (nodes self.entry.local.region) (pairs self.entry.local.rows r) (entries self.entry.matrix r) }
+        ensures value { result ≡ row_check self.entry r }
         ensures seen_after { seen.new ≡ mask_words self.entry.local.region.len (λ i. false) }
     {
         self.add_entries(r, seen);
@@ -205,13 +205,13 @@ impl System<'_> {
     // How many of row r's entries have their column inside the region.
     fn count_inside(self, r: usize) -> usize
         requires { r < self.local.region.len }
-        ensures { result ≡ count_below (get_or self.entry.matrix.row_ptr.now (r + 1) 0 - get_or self.entry.matrix.row_ptr.now r 0) (λ j. nodes self.entry.local.region (get_or self.entry.matrix.col_idx.now (get_or self.entry.matrix.row_ptr.now r 0 + j) 0)) }
+        ensures { result ≡ row_inside self.entry r }
     {
         let from = self.matrix.row_ptr[r] as usize;
         let to = self.matrix.row_ptr[r + 1] as usize;
         let mut count: usize = 0;
-        for e in from..to {
-            if self.local.region.holds(self.matrix.col_idx[e] as usize) {
+        for column in &self.matrix.col_idx[from..to] {
+            if self.local.region.holds(*column as usize) {
                 count += 1;
             }
         }
@@ -224,10 +224,8 @@ impl System<'_> {
         ensures { result ≡ sources_inside self.entry.local.region.len (nodes self.entry.local.region) self.entry.matrix.row_ptr.now self.entry.matrix.col_idx.now }
     {
         let mut sources: usize = 0;
-        let mut r = self.local.region.next_member(0);
-        while r < self.local.region.len {
+        for r in self.local.region.members() {
             sources += self.count_inside(r);
-            r = self.local.region.next_member(r + 1);
         }
         sources
     }
@@ -236,11 +234,10 @@ impl System<'_> {
     #[tactic(auto, using(crate::proofs::Sources::rows))]
     fn settle_row(self, r: usize, seen: &mut [u64]) -> Result<RowCounts, Refusal>
         requires { (r < self.local.region.len) × (seen.old ≡ mask_words self.local.region.len (λ i. false)) }
-        ensures value { result ≡ answer (row_faults self.entry.local.region.len (nodes self.entry.local.region) (pairs self.entry.local.rows r) (entries self.entry.matrix r)) (row_counts self.entry.local.region.len (nodes self.entry.local.region) (pairs self.entry.local.rows) self.entry.matrix.row_ptr.now self.entry.matrix.col_idx.now r) }
+        ensures value { result ≡ answer (row_check self.entry r) (row_held self.entry r) }
         ensures seen_after { seen.new ≡ mask_words self.entry.local.region.len (λ i. false) }
     {
-        let run = self.follow(r);
-        if let Some(counts) = run {
+        if let Some(counts) = self.follow(r) {
             return Ok(counts);
         }
         self.check_row(r, seen)?;
@@ -254,20 +251,18 @@ impl System<'_> {
     // The members' rows in order as long as each one's words are its entries, what they hold, and which of them have a pair. None says nothing.
     fn follow_members(self, paired: &mut [u64]) -> Option<Counts>
         requires { paired.old ≡ mask_words self.local.region.len (λ i. false) }
-        ensures col_idx_value { (counts : Counts) → result ≡ Some counts → (binding_check self.entry.local.region.len (nodes self.entry.local.region) (pairs self.entry.local.rows) (entries self.entry.matrix) ≡ Ok tt) × (counts ≡ counts_of self.entry.local.region.len (nodes self.entry.local.region) (pairs self.entry.local.rows) self.entry.matrix.row_ptr.now self.entry.matrix.col_idx.now) }
-        ensures marks { (counts : Counts) → result ≡ Some counts → paired.new ≡ mask_words self.entry.local.region.len (has_pair self.entry.local.region.len (nodes self.entry.local.region) (pairs self.entry.local.rows)) }
+        ensures counts_value { (counts : Counts) → result ≡ Some counts → (check_binding self.entry ≡ Ok tt) × (counts ≡ held self.entry) }
+        ensures marks { (counts : Counts) → result ≡ Some counts → paired.new ≡ mask_words self.entry.local.region.len (paired_row self.entry) }
     {
         let mut members: usize = 0;
         let mut pairs: usize = 0;
         let mut sources: usize = 0;
-        let mut r = self.local.region.next_member(0);
-        while r < self.local.region.len {
+        for r in self.local.region.members() {
             let row = self.follow(r)?;
             members += 1;
             pairs += row.pairs;
             sources += row.sources;
             mark_row(self.local.region.len, r, row.pairs, paired);
-            r = self.local.region.next_member(r + 1);
         }
         Some(Counts {
             members,
@@ -276,24 +271,22 @@ impl System<'_> {
         })
     }
 
-    // The members' rows in order, what they hold, and which of them have a pair. It is no twin of `follow_members`: one walk for both would need a
-    // flag, and a mask that the other has no use for.
+    // The members' rows in order, what they hold, and which of them have a pair. One walk for this and `follow_members`, with a closure for the row, is no
+    // plainer, because the closure's answers and what it leaves in `seen` would have to be said of each row, and one answers a Result, one an Option.
     fn settle_members(self, paired: &mut [u64], seen: &mut [u64]) -> Result<Counts, Refusal>
         requires { (paired.old ≡ mask_words self.local.region.len (λ i. false)) × (seen.old ≡ mask_words self.local.region.len (λ i. false)) }
-        ensures value { result ≡ answer (binding_check self.entry.local.region.len (nodes self.entry.local.region) (pairs self.entry.local.rows) (entries self.entry.matrix)) (counts_of self.entry.local.region.len (nodes self.entry.local.region) (pairs self.entry.local.rows) self.entry.matrix.row_ptr.now self.entry.matrix.col_idx.now) }
-        ensures marks { binding_check self.entry.local.region.len (nodes self.entry.local.region) (pairs self.entry.local.rows) (entries self.entry.matrix) ≡ Ok tt → paired.new ≡ mask_words self.entry.local.region.len (has_pair self.entry.local.region.len (nodes self.entry.local.region) (pairs self.entry.local.rows)) }
+        ensures value { result ≡ answer (check_binding self.entry) (held self.entry) }
+        ensures marks { check_binding self.entry ≡ Ok tt → paired.new ≡ mask_words self.entry.local.region.len (paired_row self.entry) }
     {
         let mut members: usize = 0;
         let mut pairs: usize = 0;
         let mut sources: usize = 0;
-        let mut r = self.local.region.next_member(0);
-        while r < self.local.region.len {
+        for r in self.local.region.members() {
             let row = self.settle_row(r, seen)?;
             members += 1;
             pairs += row.pairs;
             sources += row.sources;
             mark_row(self.local.region.len, r, row.pairs, paired);
-            r = self.local.region.next_member(r + 1);
         }
         Ok(Counts {
             members,
@@ -302,16 +295,16 @@ impl System<'_> {
         })
     }
 
-    // The same with an empty mask of its own for the rows that need it: 16,384 words hold the 1,048,576 nodes that a matrix has at most.
-    // An array: no heap.
+    // `settle_members` with an empty mask of its own for the rows that need it: 16,384 words hold the 1,048,576 nodes that a matrix has at most. An array:
+    // no heap.
     fn settle(self, paired: &mut [u64]) -> Result<Counts, Refusal>
         requires { paired.old ≡ mask_words self.local.region.len (λ i. false) }
-        ensures value { result ≡ answer (binding_check self.entry.local.region.len (nodes self.entry.local.region) (pairs self.entry.local.rows) (entries self.entry.matrix)) (counts_of self.entry.local.region.len (nodes self.entry.local.region) (pairs self.entry.local.rows) self.entry.matrix.row_ptr.now self.entry.matrix.col_idx.now) }
-        ensures marks { binding_check self.entry.local.region.len (nodes self.entry.local.region) (pairs self.entry.local.rows) (entries self.entry.matrix) ≡ Ok tt → paired.new ≡ mask_words self.entry.local.region.len (has_pair self.entry.local.region.len (nodes self.entry.local.region) (pairs self.entry.local.rows)) }
+        ensures value { result ≡ answer (check_binding self.entry) (held self.entry) }
+        ensures marks { check_binding self.entry ≡ Ok tt → paired.new ≡ mask_words self.entry.local.region.len (paired_row self.entry) }
     {
         let mut seen: [u64; 16384] = [0; 16384];
         let need = mask::inner::words_for(self.local.region.len);
-        self.settle_members(paired, &mut seen[0..need])
+        self.settle_members(paired, &mut seen[..need])
     }
 
     // 23 and 24 by local row, what the rows hold, and, where all of them bind, the mask of those that have a pair: the others need no second look.
@@ -319,24 +312,23 @@ impl System<'_> {
     #[tactic(auto, using(crate::proofs::Sources::rows))]
     pub fn bind_rows(self, paired: &mut [u64]) -> Result<Counts, Refusal>
         requires { paired.old ≡ mask_words self.local.region.len (λ i. false) }
-        ensures value { result ≡ answer (binding_check self.entry.local.region.len (nodes self.entry.local.region) (pairs self.entry.local.rows) (entries self.entry.matrix)) (counts_of self.entry.local.region.len (nodes self.entry.local.region) (pairs self.entry.local.rows) self.entry.matrix.row_ptr.now self.entry.matrix.col_idx.now) }
-        ensures marks { binding_check self.entry.local.region.len (nodes self.entry.local.region) (pairs self.entry.local.rows) (entries self.entry.matrix) ≡ Ok tt → paired.new ≡ mask_words self.entry.local.region.len (has_pair self.entry.local.region.len (nodes self.entry.local.region) (pairs self.entry.local.rows)) }
+        ensures value { result ≡ answer (check_binding self.entry) (held self.entry) }
+        ensures marks { check_binding self.entry ≡ Ok tt → paired.new ≡ mask_words self.entry.local.region.len (paired_row self.entry) }
     {
-        let run = self.follow_members(paired);
-        if let Some(counts) = run {
+        if let Some(counts) = self.follow_members(paired) {
             return Ok(counts);
         }
         mask::inner::clear(self.local.region.len, paired);
         self.settle(paired)
     }
 
-    // The same where nobody asks for the mask, an array as in `settle`.
+    // `bind_rows` where nobody asks for the mask, an array as in `settle`.
     pub fn bind(self) -> Result<Counts, Refusal>
-        ensures { result ≡ answer (binding_check self.entry.local.region.len (nodes self.entry.local.region) (pairs self.entry.local.rows) (entries self.entry.matrix)) (counts_of self.entry.local.region.len (nodes self.entry.local.region) (pairs self.entry.local.rows) self.entry.matrix.row_ptr.now self.entry.matrix.col_idx.now) }
+        ensures { result ≡ answer (check_binding self.entry) (held self.entry) }
     {
         let mut paired: [u64; 16384] = [0; 16384];
         let need = mask::inner::words_for(self.local.region.len);
-        self.bind_rows(&mut paired[0..need])
+        self.bind_rows(&mut paired[..need])
     }
 }
 
@@ -345,9 +337,10 @@ fn mark_row(n: usize, r: usize, pairs: usize, paired: &mut [u64])
     requires { IsMask n paired.old × (r < n) }
     ensures { paired.new ≡ cond (ltb 0 pairs) (with_node n paired.old r true) paired.old }
 {
-    let mut bit: u64 = 0;
-    if pairs > 0 {
-        bit = 1u64 << (r % AbtmTopologyWord::BITS);
-    }
+    let bit: u64 = if pairs > 0 {
+        1u64 << (r % AbtmTopologyWord::BITS)
+    } else {
+        0
+    };
     paired[r / AbtmTopologyWord::BITS] |= bit;
 }

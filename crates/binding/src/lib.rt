@@ -2,8 +2,6 @@
 // no public call.
 #![tactic(auto)]
 
-use base::Refusal;
-
 pub mod inner;
 
 // Consecutive entries of a row that lie in one word: their bits, where they end, and of those inside the region how many columns and how many

@@ -29,13 +29,13 @@ use Rattle.dual_topology.specs.Answers.{build_check, counts_of}
 use Rattle.dual_topology.specs.declared.TopologyCounts.{TopologyCounts}
 use Rattle.dual_topology.proofs.Built.{built-topology, built-accepted}
 use Rattle.growths.specs.Runs.{Growth, Ground, plain_ground, field_ground}
-use Rattle.claims.specs.Demand.{System, Accepts, Kind, Claim, topology_of, pairs_of}
+use Rattle.claims.specs.Demand.{CutSystem, Accepts, Kind, Claim, topology_of, pairs_of}
 use Rattle.claims.proofs.Demand.{demand-3}
 
 -- ---- topology
 
 -- the matrix, the topology of its pairs, and the first seeds
-abbrev pub built_of : ℕ → List ℕ → List ℕ → List Float → ℕ → List ℕ → System
+abbrev pub built_of : ℕ → List ℕ → List ℕ → List Float → ℕ → List ℕ → CutSystem
 built_of n ptr cols values len seeds =
     record {
       side = n;
@@ -82,7 +82,7 @@ module _ (n : ℕ) (ptr cols : List ℕ) (values : List Float) (len : ℕ) (seed
     abbrev counts : TopologyCounts
     counts = counts_of n n (stored ptr cols)
 
-    abbrev pub left_of : System
+    abbrev pub left_of : CutSystem
     left_of =
         record {
           side = n;
@@ -146,7 +146,7 @@ module _ (kinds ids fields components : List ℕ) where
 
 module _ (n : ℕ) (ptr cols : List ℕ) (values : List Float) (len : ℕ) (seeds : List ℕ)
     (matrix : matrix_check n n ptr cols values ≡ Ok tt) (mask : length_check n len seeds ≡ Ok tt) (bits : (w : ℕ) → get_or seeds w 0 < 2 ^ 64) (cs : List Growth) where
-  abbrev S : System
+  abbrev S : CutSystem
   S = built_of n ptr cols values len seeds
 
   pub demand-3-built : (k : Ground) → Kind S k → Claim S k cs

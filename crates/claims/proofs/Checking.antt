@@ -1,5 +1,5 @@
 -- The checks of a run: 23 and 24 over all rows, and what acceptance gives. Assumes nothing.
-use mathlib.Core.Path.{◌≡◌, refl, sym, ap, ap₂, ◌∙◌, subst}
+use mathlib.Core.Path.{◌≡◌, refl, sym, ap, ap₂, ◌∙◌}
 use Rattle.std.specs.Prelude.{Ok, Err}
 use Rattle.base.specs.Checks.{Check}
 use Rattle.base.specs.declared.Refusal.TheVariants.{PairWithoutEntry, EntryWithoutPair, WrongLength}
@@ -18,17 +18,16 @@ use Rattle.mask.specs.Mask.{in_mask, length_check, IsMask}
 use Rattle.mask.specs.Answers.{with_range}
 use Rattle.mask.proofs.Masks.{mask-holds, is-of}
 use Rattle.csr32.specs.declared.Csr32Matrix.{Csr32Matrix}
-use Rattle.csr32.specs.Views.{check_matrix}
-use Rattle.csr32.proofs.Matrix.{accepted}
-use Rattle.side.specs.Check.{IsSide}
+use Rattle.csr32.specs.declared.inner.Matrix.{Matrix}
+use Rattle.csr32.specs.Views.{entries as held, AcceptedFrom as AcceptedMatrix}
+use Rattle.side.specs.declared.inner.Side.{Side}
+use Rattle.side.specs.Views.{pairs, AcceptedFrom as AcceptedSide}
 use Rattle.dual_topology.specs.declared.AbtmDualTopology.{AbtmDualTopology}
-use Rattle.dual_topology.specs.Views.{SoundTopology}
 use Rattle.pattern.specs.Pattern.{member_at}
 use Rattle.binding.specs.Binding.{row_faults, binding_check}
 use Rattle.numeric_plan.specs.Plan.{sides_check}
-use Rattle.numeric_plan.proofs.Accepted.{square-matrix}
 use Rattle.claims.specs.Run.{square_topology, pairs_check, arrays_check, run_check, field_run_check}
-use Rattle.claims.specs.Views.{SoundSides}
+use Rattle.claims.specs.Views.{check_arrays}
 
 -- ---- a length as the last check
 
@@ -100,13 +99,17 @@ accepted-sides topology nrows ncols rows cols e =
     let square : nrows ≡ ncols = eqb-true _ _ (passed _ _ b.1) in
     record { topology_ok = a.0; as_rows = eqb-true _ _ (passed _ _ d.0); as_cols = square ∙ eqb-true _ _ (passed _ _ d.1); square = square }
 
--- the rows side and the matrix are of one side
-pub sound-sides : (t : AbtmDualTopology) (m : Csr32Matrix) → check_matrix m ≡ Ok tt → t.rows.nrows ≡ m.nrows → t.rows.ncols ≡ m.ncols → t.rows.nrows ≡ t.rows.ncols → SoundTopology t → SoundSides t m
-sound-sides t m e a b square s =
-    record {
-      rows = subst (λ (n : ℕ). IsSide t.rows.nrows n t.rows.row_word_ptr.now t.rows.word_indices.now t.rows.masks.now) (sym square) s.topology.rows;
-      matrix = square-matrix m.nrows m.ncols t.rows.nrows m.row_ptr.now m.col_idx.now a (square ∙ b) (accepted m.nrows m.ncols m.row_ptr.now m.col_idx.now m.values.now e).matrix;
-    }
+-- the arrays of what was accepted are those of what was lent
+pub same-arrays : (t : AbtmDualTopology) (m : Csr32Matrix) (s : Side) (a : Matrix) → AcceptedSide t.rows s → AcceptedMatrix m a → (len : ℕ) (seeds hops rooms : List ℕ)
+    → arrays_check s.nrows len seeds (pairs s) (held a) hops rooms ≡ check_arrays t m len seeds hops rooms
+same-arrays t m s a e f len seeds hops rooms =
+    let n = e.0 in
+    let starts = e.2 in
+    let words = e.3 in
+    let masks = e.4 in
+    let row_ptr = f.2 in
+    let col_idx = f.3 in
+    cc
 
 pub record Arrays (n len : ℕ) (seeds : List ℕ) (s entries : ℕ → ℕ → Bool) (hops rooms : List ℕ) : Type 0 where
   pub mask : length_check n len seeds ≡ Ok tt

@@ -36,7 +36,7 @@ use Rattle.numeric_plan.specs.Plan.{sides_check, plan_inputs, plan_room, plan_ch
 use Rattle.numeric_plan.proofs.Pairs.{lists_length}
 use Rattle.numeric_plan.proofs.Plans.{plan-gathers}
 use Rattle.growths.specs.Runs.{Growth, Ground}
-use Rattle.claims.specs.Demand.{System, Accepts, Kind, Values, matrix_of, topology_of, pairs_of, entries_stored, pattern_of, plan_of, planned, gather_of, entries, value_of, held, Complete}
+use Rattle.claims.specs.Demand.{CutSystem, Accepts, Kind, Values, matrix_of, topology_of, pairs_of, entries_stored, pattern_of, plan_of, planned, gather_of, entries, value_of, held, Complete}
 use Rattle.growths.proofs.Runs.{holds_run}
 use Rattle.claims.proofs.Grounds.{solid, seeds-accepted}
 use Rattle.claims.proofs.Pairs.{listed-pairs}
@@ -54,7 +54,7 @@ binding-accepted n p s t same =
 
 -- ---- the three calls
 
-module _ (S : System) (a : Accepts S) (region : List ℕ) (mask : length_check S.side S.len region ≡ Ok tt) where
+module _ (S : CutSystem) (a : Accepts S) (region : List ℕ) (mask : length_check S.side S.len region ≡ Ok tt) where
   abbrev n : ℕ
   n = S.side
 
@@ -115,7 +115,7 @@ values-each lists values = gathered-lists lists values ∙ go (direct lists)
 
 -- ---- all of it
 
-module _ (S : System) (a : Accepts S) (k : Ground) (kind : Kind S k) (cs : List Growth) where
+module _ (S : CutSystem) (a : Accepts S) (k : Ground) (kind : Kind S k) (cs : List Growth) where
   abbrev g : Network
   g = k.network
 

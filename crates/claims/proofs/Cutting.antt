@@ -18,7 +18,7 @@ use Rattle.gather.proofs.Plans.{pointers-length}
 use Rattle.mask.specs.Mask.{in_mask}
 use Rattle.numeric_plan.specs.Plan.{plan_stats}
 use Rattle.numeric_plan.specs.declared.AbtmLocalNumericPlanStats.{AbtmLocalNumericPlanStats}
-use Rattle.claims.specs.Demand.{System, Planned, entries, plan_of, planned}
+use Rattle.claims.specs.Demand.{CutSystem, Planned, entries, plan_of, planned}
 use Rattle.claims.specs.Cutting.{pattern_cut, plan_cut, plan_accepts, cut_answer, values_cut}
 use Rattle.claims.specs.declared.Cut.{Cut}
 use Rattle.pattern.specs.declared.AbtmLocalSubmatrixPatternStats.{AbtmLocalSubmatrixPatternStats}
@@ -37,7 +37,7 @@ refused (Err q) x r plan e f = cc
 abbrev cut : Result AbtmLocalSubmatrixPatternStats Refusal → Result AbtmLocalNumericPlanStats Refusal → Result ℕ Refusal → Cut
 cut pattern plan gathered = record { pattern = pattern; plan = plan; gathered = gathered }
 
-module _ (S : System) (region nodes ptr cols source_ptr sources nodes' ptr' cols' : List ℕ) (en : nodes' ≡ (pattern_cut S region nodes ptr cols source_ptr sources).nodes) (ep : ptr' ≡ (pattern_cut S region nodes ptr cols source_ptr sources).ptr)
+module _ (S : CutSystem) (region nodes ptr cols source_ptr sources nodes' ptr' cols' : List ℕ) (en : nodes' ≡ (pattern_cut S region nodes ptr cols source_ptr sources).nodes) (ep : ptr' ≡ (pattern_cut S region nodes ptr cols source_ptr sources).ptr)
     (ec : cols' ≡ (pattern_cut S region nodes ptr cols source_ptr sources).columns) where
   -- the plan, told of the lists as they stand
   abbrev told : Planned

@@ -3,12 +3,12 @@ use mathlib.Core.Path.{◌≡◌, ap, ◌∙◌}
 use Rattle.std.specs.Prelude.{Ok}
 use mathlib.Core.List.{List}
 use Rattle.growths.specs.Runs.{Growth, Ground, check_of, region_of}
-use Rattle.claims.specs.Demand.{System, Accepts, Kind, extracted, planned, gathered_from, held, Claim}
+use Rattle.claims.specs.Demand.{CutSystem, Accepts, Kind, extracted, planned, gathered_from, held, Claim}
 use Rattle.growths.proofs.Runs.{same_region, same_frontier}
 use Rattle.claims.proofs.Grounds.{solid, seeds-accepted}
 use Rattle.claims.proofs.Complete.{complete}
 
-pub demand-3 : (S : System) → Accepts S → (k : Ground) → Kind S k → (cs : List Growth) → Claim S k cs
+pub demand-3 : (S : CutSystem) → Accepts S → (k : Ground) → Kind S k → (cs : List Growth) → Claim S k cs
 demand-3 S a k kind cs =
     let s = solid S a k kind in
     record {

@@ -9,9 +9,9 @@ use Rattle.mask.specs.Mask.{length_check}
 use Rattle.dual_topology.proofs.Accepted.{accepted-topology}
 use Rattle.growths.specs.Runs.{Growth, Ground, begun, run}
 use Rattle.growths.proofs.Grounds.{Solid, plain-solid, field-solid, run-accepted}
-use Rattle.claims.specs.Demand.{System, Accepts, Kind, topology_of, pairs_of}
+use Rattle.claims.specs.Demand.{CutSystem, Accepts, Kind, topology_of, pairs_of}
 
-module _ (S : System) (a : Accepts S) where
+module _ (S : CutSystem) (a : Accepts S) where
   pub side-small : S.side ≤ side_limit
   side-small =
       (accepted-topology S.side S.side S.row_word_ptr S.row_word_indices S.row_masks S.row_pairs S.side S.side S.column_word_ptr S.column_word_indices S.column_masks S.column_pairs a.row_bits a.column_bits a.topology

@@ -27,7 +27,7 @@ use Rattle.graph.proofs.Networks.{region-cap, frontier-cap}
 use Rattle.growth.specs.Lent.{masks_room}
 use Rattle.numeric_plan.proofs.Binding.{bound}
 use Rattle.growths.specs.Runs.{largest, Growth, Ground, plain_ground, field_ground, Run, begun, check_of, region_of, frontier_of, grown, run}
-use Rattle.claims.specs.Demand.{System, Accepts, Kind, Claim, topology_of, pairs_of, held}
+use Rattle.claims.specs.Demand.{CutSystem, Accepts, Kind, Claim, topology_of, pairs_of, held}
 use Rattle.growths.specs.Counts.{takes, accepted_in, total_in, last_in, ran_of, seeds_after}
 use Rattle.claims.specs.Cutting.{system_of}
 use Rattle.claims.specs.Run.{square_topology, arrays_check, run_check, field_run_check, ran_by}
@@ -148,7 +148,7 @@ module _ (side len : ℕ) (k : Ground) (s : Solid side len k) (first : List ℕ)
 -- ---- the claim, of what a call ran
 
 -- of every list of growths that the arrays can stand for: demand 3, and what it has come to is what the call says
-pub record Speaks (S : System) (k : Ground) (ran : Ran) (cs : List Growth) : Type 0 where
+pub record Speaks (S : CutSystem) (k : Ground) (ran : Ran) (cs : List Growth) : Type 0 where
   pub claim : Claim S k cs
   pub comes : Comes k S.seeds ran (held S k cs)
 
@@ -160,7 +160,7 @@ module _ (nrows ncols : ℕ) (ptr idx masks : List ℕ) (pairs nrows2 ncols2 : �
   abbrev topology : Check
   topology = topology_check nrows ncols ptr idx masks pairs nrows2 ncols2 ptr2 idx2 masks2 pairs2
 
-  abbrev S : System
+  abbrev S : CutSystem
   S = system_of nrows row_ptr col-idx values ptr idx masks pairs ptr2 idx2 masks2 pairs2 len seeds
 
   abbrev sides : Check

@@ -42,7 +42,7 @@ use Rattle.gather.specs.Gather.{gathered, gather_check}
 use Rattle.gather.specs.Plan.{plan_sources, plan_ptr}
 use Rattle.numeric_plan.specs.Plan.{pair_entries, plan_room, sides_check, plan_inputs, plan_check}
 use Rattle.growths.specs.Runs.{Growth, Ground, plain_ground, begun, check_of, grown, run}
-use Rattle.claims.specs.Demand.{System, Planned, Gathered, matrix_of, topology_of, pairs_of, planned, gathered_from}
+use Rattle.claims.specs.Demand.{CutSystem, Planned, Gathered, matrix_of, topology_of, pairs_of, planned, gathered_from}
 use Rattle.claims.proofs.Built.{built_of}
 
 -- ---- growth
@@ -52,7 +52,7 @@ abbrev unit : Float
 unit = of_bits binary64 0x3ff0_0000_0000_0000
 
 -- the entries (0,1), (1,2), side 3, their topology, and seeds
-abbrev pub chain : List ℕ → System
+abbrev pub chain : List ℕ → CutSystem
 chain seeds =
     record {
       side = 3;
@@ -179,7 +179,7 @@ abbrev minus_zero : Float
 minus_zero = of_bits binary64 0x8000_0000_0000_0000
 
 -- the entries (0,0) = 1.5, (0,0) = 2.25, (1,1) = -0.0, and their topology
-abbrev pub doubled : System
+abbrev pub doubled : CutSystem
 doubled =
     record {
       side = 2;

@@ -4,11 +4,11 @@ use Rattle.std.specs.Prelude.{List, ℕ, Float}
 use Rattle.std.specs.Prelude.{Err}
 use Rattle.base.specs.Checks.{Check}
 use Rattle.base.specs.Checks.{after, leaves}
-use Rattle.claims.specs.Demand.{System, Extracted, Planned, Gathered, extracted, plan_of, planned, gathered_from}
+use Rattle.claims.specs.Demand.{CutSystem, Extracted, Planned, Gathered, extracted, plan_of, planned, gathered_from}
 use Rattle.claims.specs.declared.Cut.{Cut}
 
 -- a system from its lists
-abbrev pub system_of : ℕ → List ℕ → List ℕ → List Float → List ℕ → List ℕ → List ℕ → ℕ → List ℕ → List ℕ → List ℕ → ℕ → ℕ → List ℕ → System
+abbrev pub system_of : ℕ → List ℕ → List ℕ → List Float → List ℕ → List ℕ → List ℕ → ℕ → List ℕ → List ℕ → List ℕ → ℕ → ℕ → List ℕ → CutSystem
 system_of side row_ptr col_idx values row_word_ptr row_word_indices row_masks row_pairs column_word_ptr column_word_indices column_masks column_pairs len seeds =
     record {
       side = side;
@@ -27,7 +27,7 @@ system_of side row_ptr col_idx values row_word_ptr row_word_indices row_masks ro
       seeds = seeds;
     }
 
-module _ (S : System) (region nodes ptr cols source_ptr sources : List ℕ) where
+module _ (S : CutSystem) (region nodes ptr cols source_ptr sources : List ℕ) where
   -- the pattern, then the plan on the lists that the pattern left
   abbrev pub pattern_cut : Extracted
   pattern_cut = extracted S region nodes ptr cols

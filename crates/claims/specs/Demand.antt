@@ -28,7 +28,7 @@ use Rattle.pattern.specs.declared.AbtmLocalSubmatrixPatternStats.{AbtmLocalSubma
 -- ---- the inputs
 
 -- a square matrix, a topology, and the first seeds
-pub record System : Type 0 where
+pub record CutSystem : Type 0 where
   pub side : ℕ
   pub row_ptr : List ℕ
   pub col_idx : List ℕ
@@ -44,7 +44,7 @@ pub record System : Type 0 where
   pub len : ℕ
   pub seeds : List ℕ
 
-module _ (S : System) where
+module _ (S : CutSystem) where
   abbrev pub matrix_of : Check
   matrix_of = matrix_check S.side S.side S.row_ptr S.col_idx S.values
 
@@ -100,49 +100,54 @@ pub record Gathered : Type 0 where
   pub answer : Result ℕ Refusal
   pub values : List Float
 
-module _ (S : System) (region : List ℕ) where
-  abbrev pub pattern_of : List ℕ → List ℕ → List ℕ → Check
-  pattern_of nodes ptr cols = pattern_check (topology_of S) S.side S.side S.len region (pairs_of S) nodes ptr cols
+module _ (S : CutSystem) (region : List ℕ) where
+  module _ (nodes ptr cols : List ℕ) where
+    abbrev pub pattern_of : Check
+    pattern_of = pattern_check (topology_of S) S.side S.side S.len region (pairs_of S) nodes ptr cols
 
-  abbrev pub extracted : List ℕ → List ℕ → List ℕ → Extracted
-  extracted nodes ptr cols =
-      record {
-        answer = pattern_answer (pattern_of nodes ptr cols) S.side (in_mask region) (pairs_of S);
-        nodes = nodes_left (pattern_of nodes ptr cols) S.side (in_mask region) nodes;
-        ptr = ptr_left (pattern_of nodes ptr cols) S.side (in_mask region) (pairs_of S) ptr;
-        columns = columns_left (pattern_of nodes ptr cols) S.side (in_mask region) (pairs_of S) cols;
-      }
+    abbrev pub extracted : Extracted
+    extracted =
+        record {
+          answer = pattern_answer pattern_of S.side (in_mask region) (pairs_of S);
+          nodes = nodes_left pattern_of S.side (in_mask region) nodes;
+          ptr = ptr_left pattern_of S.side (in_mask region) (pairs_of S) ptr;
+          columns = columns_left pattern_of S.side (in_mask region) (pairs_of S) cols;
+        }
 
   -- the entries of each pair of the pattern
   abbrev pub entries : List (List ℕ)
   entries = pair_entries S.side (in_mask region) (pairs_of S) S.row_ptr S.col_idx
 
-  abbrev pub plan_of : List ℕ → List ℕ → List ℕ → List ℕ → List ℕ → Check
-  plan_of nodes ptr cols source_ptr sources =
-      plan_check (plan_inputs (matrix_of S) (topology_of S) S.side S.side S.side S.side S.len region (pairs_of S) (entries_stored S)) S.side (in_mask region) (pairs_of S) entries nodes ptr cols source_ptr sources
+  -- the matrix, the topology, 22, 10, the mask, 23 and 24
+  abbrev pub inputs_of : Check
+  inputs_of = plan_inputs (matrix_of S) (topology_of S) S.side S.side S.side S.side S.len region (pairs_of S) (entries_stored S)
 
-  abbrev pub planned : List ℕ → List ℕ → List ℕ → List ℕ → List ℕ → Planned
-  planned nodes ptr cols source_ptr sources =
-      record {
-        answer = plan_answer (plan_of nodes ptr cols source_ptr sources) S.side (in_mask region) entries;
-        nodes = nodes_left (plan_of nodes ptr cols source_ptr sources) S.side (in_mask region) nodes;
-        ptr = ptr_left (plan_of nodes ptr cols source_ptr sources) S.side (in_mask region) (pairs_of S) ptr;
-        columns = columns_left (plan_of nodes ptr cols source_ptr sources) S.side (in_mask region) (pairs_of S) cols;
-        source_ptr = source_ptr_left (plan_of nodes ptr cols source_ptr sources) entries source_ptr;
-        sources = sources_left (plan_of nodes ptr cols source_ptr sources) entries sources;
-      }
+  module _ (nodes ptr cols source_ptr sources : List ℕ) where
+    abbrev pub plan_of : Check
+    plan_of = plan_check inputs_of S.side (in_mask region) (pairs_of S) entries nodes ptr cols source_ptr sources
+
+    abbrev pub planned : Planned
+    planned =
+        record {
+          answer = plan_answer plan_of S.side (in_mask region) entries;
+          nodes = nodes_left plan_of S.side (in_mask region) nodes;
+          ptr = ptr_left plan_of S.side (in_mask region) (pairs_of S) ptr;
+          columns = columns_left plan_of S.side (in_mask region) (pairs_of S) cols;
+          source_ptr = source_ptr_left plan_of entries source_ptr;
+          sources = sources_left plan_of entries sources;
+        }
 
   -- a plan is handed on with exactly its own pointers and sources
-  abbrev pub gather_of : List ℕ → List ℕ → List Float → List Float → Check
-  gather_of source_ptr sources values out =
-      gather_check (take (length entries + 1) source_ptr) (take (length (plan_sources entries)) sources) (length S.col_idx) values out
+  module _ (source_ptr sources : List ℕ) (values out : List Float) where
+    abbrev pub gather_of : Check
+    gather_of = gather_check (take (length entries + 1) source_ptr) (take (length (plan_sources entries)) sources) (length S.col_idx) values out
 
-  abbrev pub gathered_from : List ℕ → List ℕ → List Float → List Float → Gathered
-  gathered_from source_ptr sources values out =
-      record {
-        answer = gather_answer (gather_of source_ptr sources values out) (take (length entries + 1) source_ptr);
-        values = gather_left (gather_of source_ptr sources values out) (take (length entries + 1) source_ptr) (take (length (plan_sources entries)) sources) values out;
-      }
+    abbrev pub gathered_from : Gathered
+    gathered_from =
+        record {
+          answer = gather_answer gather_of (take (length entries + 1) source_ptr);
+          values = gather_left gather_of (take (length entries + 1) source_ptr) (take (length (plan_sources entries)) sources) values out;
+        }
 
 -- ---- what a pattern and its values are
 
@@ -160,7 +165,7 @@ value_of one values entries = cond one (get_or values (get_or entries 0 0) nan) 
 
 -- ---- the claim
 
-module _ (S : System) (k : Ground) (cs : List Growth) where
+module _ (S : CutSystem) (k : Ground) (cs : List Growth) where
   -- what the list of growths has come to
   abbrev pub held : Run
   held = run k (begun S.seeds) cs

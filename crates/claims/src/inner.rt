@@ -1,15 +1,14 @@
 // The local system of the region that a list of growths comes to, for callers that have checked: no part of the API.
-ghost use Rattle.std.specs.Prelude.{◌≡◌, false, ◌+◌, ◌≤◌, length, take};
-ghost use Rattle.base.specs.Checks.{answer};
+ghost use Rattle.std.specs.Prelude.{◌≡◌, false, ◌+◌, ◌≤◌, length, take, IfOk, IfErr};
+ghost use Rattle.base.specs.Checks.{◌then◌, answer};
 ghost use Rattle.mask.specs.Mask.{in_mask, mask_words, IsMask};
-ghost use Rattle.csr32.specs.Views.{stores};
-ghost use Rattle.side.specs.Views.{holds};
+ghost use Rattle.csr32.specs.Views.{check_matrix, entries, AcceptedFrom as AcceptedMatrix};
+ghost use Rattle.side.specs.Views.{pairs, AcceptedFrom as AcceptedSide};
 ghost use Rattle.binding.specs.Binding.{binding_check};
 ghost use Rattle.binding.specs.Steps.{counts_of};
 ghost use Rattle.gather.specs.Gather.{gather_check, gather_answer, gather_left};
-ghost use Rattle.claims.specs.Cutting.{plan_cut, cut_answer, values_cut};
-ghost use Rattle.claims.specs.Run.{with_cut, without_cut, pairs_check, if_grown};
-ghost use Rattle.claims.specs.Views.{lent_system, lent_arrays, SoundSides};
+ghost use Rattle.claims.specs.Run.{with_cut, without_cut, arrays_check, pairs_check, if_grown};
+ghost use Rattle.claims.specs.Views.{check_sides, plan_on, answer_on, values_on};
 
 use crate::{Cut, GrowthRun};
 use base::Refusal;
@@ -64,13 +63,13 @@ pub fn cut<'a>(
     source_indices: &mut [u32],
     out: &mut [f64],
 ) -> Cut
-    ensures value { result ≡ cut_answer (lent_system topology.entry matrix.entry region.entry.len region.entry.words.now) region.entry.words.now global_nodes.old local_row_ptr.old local_col_idx.old source_ptr.old source_indices.old new_values.now out.old }
-    ensures members { global_nodes.new ≡ (plan_cut (lent_system topology.entry matrix.entry region.entry.len region.entry.words.now) region.entry.words.now global_nodes.old local_row_ptr.old local_col_idx.old source_ptr.old source_indices.old).nodes }
-    ensures pointers { local_row_ptr.new ≡ (plan_cut (lent_system topology.entry matrix.entry region.entry.len region.entry.words.now) region.entry.words.now global_nodes.old local_row_ptr.old local_col_idx.old source_ptr.old source_indices.old).ptr }
-    ensures columns { local_col_idx.new ≡ (plan_cut (lent_system topology.entry matrix.entry region.entry.len region.entry.words.now) region.entry.words.now global_nodes.old local_row_ptr.old local_col_idx.old source_ptr.old source_indices.old).columns }
-    ensures starts { source_ptr.new ≡ (plan_cut (lent_system topology.entry matrix.entry region.entry.len region.entry.words.now) region.entry.words.now global_nodes.old local_row_ptr.old local_col_idx.old source_ptr.old source_indices.old).source_ptr }
-    ensures sources { source_indices.new ≡ (plan_cut (lent_system topology.entry matrix.entry region.entry.len region.entry.words.now) region.entry.words.now global_nodes.old local_row_ptr.old local_col_idx.old source_ptr.old source_indices.old).sources }
-    ensures gathered { out.new ≡ values_cut (lent_system topology.entry matrix.entry region.entry.len region.entry.words.now) region.entry.words.now global_nodes.old local_row_ptr.old local_col_idx.old source_ptr.old source_indices.old new_values.now out.old }
+    ensures value { result ≡ answer_on topology.entry matrix.entry region.entry.len region.entry.words.now global_nodes.old local_row_ptr.old local_col_idx.old source_ptr.old source_indices.old new_values.now out.old }
+    ensures members { global_nodes.new ≡ (plan_on topology.entry matrix.entry region.entry.len region.entry.words.now global_nodes.old local_row_ptr.old local_col_idx.old source_ptr.old source_indices.old).nodes }
+    ensures pointers { local_row_ptr.new ≡ (plan_on topology.entry matrix.entry region.entry.len region.entry.words.now global_nodes.old local_row_ptr.old local_col_idx.old source_ptr.old source_indices.old).ptr }
+    ensures columns { local_col_idx.new ≡ (plan_on topology.entry matrix.entry region.entry.len region.entry.words.now global_nodes.old local_row_ptr.old local_col_idx.old source_ptr.old source_indices.old).columns }
+    ensures starts { source_ptr.new ≡ (plan_on topology.entry matrix.entry region.entry.len region.entry.words.now global_nodes.old local_row_ptr.old local_col_idx.old source_ptr.old source_indices.old).source_ptr }
+    ensures sources { source_indices.new ≡ (plan_on topology.entry matrix.entry region.entry.len region.entry.words.now global_nodes.old local_row_ptr.old local_col_idx.old source_ptr.old source_indices.old).sources }
+    ensures gathered { out.new ≡ values_on topology.entry matrix.entry region.entry.len region.entry.words.now global_nodes.old local_row_ptr.old local_col_idx.old source_ptr.old source_indices.old new_values.now out.old }
 {
     let n = topology.rows.nrows;
     let square = AbtmDualTopology {
@@ -144,13 +143,13 @@ pub fn finish<'a>(
     source_indices: &mut [u32],
     out: &mut [f64],
 ) -> GrowthRun
-    ensures value { result ≡ if_grown ran (with_cut ran (cut_answer (lent_system topology.entry matrix.entry region.entry.len region.entry.words.now) region.entry.words.now global_nodes.old local_row_ptr.old local_col_idx.old source_ptr.old source_indices.old new_values.now out.old)) (without_cut ran) }
-    ensures members { global_nodes.new ≡ if_grown ran (plan_cut (lent_system topology.entry matrix.entry region.entry.len region.entry.words.now) region.entry.words.now global_nodes.old local_row_ptr.old local_col_idx.old source_ptr.old source_indices.old).nodes global_nodes.old }
-    ensures pointers { local_row_ptr.new ≡ if_grown ran (plan_cut (lent_system topology.entry matrix.entry region.entry.len region.entry.words.now) region.entry.words.now global_nodes.old local_row_ptr.old local_col_idx.old source_ptr.old source_indices.old).ptr local_row_ptr.old }
-    ensures columns { local_col_idx.new ≡ if_grown ran (plan_cut (lent_system topology.entry matrix.entry region.entry.len region.entry.words.now) region.entry.words.now global_nodes.old local_row_ptr.old local_col_idx.old source_ptr.old source_indices.old).columns local_col_idx.old }
-    ensures starts { source_ptr.new ≡ if_grown ran (plan_cut (lent_system topology.entry matrix.entry region.entry.len region.entry.words.now) region.entry.words.now global_nodes.old local_row_ptr.old local_col_idx.old source_ptr.old source_indices.old).source_ptr source_ptr.old }
-    ensures sources { source_indices.new ≡ if_grown ran (plan_cut (lent_system topology.entry matrix.entry region.entry.len region.entry.words.now) region.entry.words.now global_nodes.old local_row_ptr.old local_col_idx.old source_ptr.old source_indices.old).sources source_indices.old }
-    ensures filled { out.new ≡ if_grown ran (values_cut (lent_system topology.entry matrix.entry region.entry.len region.entry.words.now) region.entry.words.now global_nodes.old local_row_ptr.old local_col_idx.old source_ptr.old source_indices.old new_values.now out.old) out.old }
+    ensures value { result ≡ if_grown ran (with_cut ran (answer_on topology.entry matrix.entry region.entry.len region.entry.words.now global_nodes.old local_row_ptr.old local_col_idx.old source_ptr.old source_indices.old new_values.now out.old)) (without_cut ran) }
+    ensures members { global_nodes.new ≡ if_grown ran (plan_on topology.entry matrix.entry region.entry.len region.entry.words.now global_nodes.old local_row_ptr.old local_col_idx.old source_ptr.old source_indices.old).nodes global_nodes.old }
+    ensures pointers { local_row_ptr.new ≡ if_grown ran (plan_on topology.entry matrix.entry region.entry.len region.entry.words.now global_nodes.old local_row_ptr.old local_col_idx.old source_ptr.old source_indices.old).ptr local_row_ptr.old }
+    ensures columns { local_col_idx.new ≡ if_grown ran (plan_on topology.entry matrix.entry region.entry.len region.entry.words.now global_nodes.old local_row_ptr.old local_col_idx.old source_ptr.old source_indices.old).columns local_col_idx.old }
+    ensures starts { source_ptr.new ≡ if_grown ran (plan_on topology.entry matrix.entry region.entry.len region.entry.words.now global_nodes.old local_row_ptr.old local_col_idx.old source_ptr.old source_indices.old).source_ptr source_ptr.old }
+    ensures sources { source_indices.new ≡ if_grown ran (plan_on topology.entry matrix.entry region.entry.len region.entry.words.now global_nodes.old local_row_ptr.old local_col_idx.old source_ptr.old source_indices.old).sources source_indices.old }
+    ensures filled { out.new ≡ if_grown ran (values_on topology.entry matrix.entry region.entry.len region.entry.words.now global_nodes.old local_row_ptr.old local_col_idx.old source_ptr.old source_indices.old new_values.now out.old) out.old }
 {
     if ran.accepted == 0 {
         return GrowthRun { ran, cut: None };
@@ -173,64 +172,83 @@ pub fn finish<'a>(
     }
 }
 
-// A topology and a matrix that were accepted, of the same nodes.
+// The rows of a topology and a matrix that were accepted, of the same nodes.
 #[derive(Clone, Copy)]
 pub struct Compared<'a> {
-    pub topology: AbtmDualTopology<'a>,
-    pub matrix: Csr32Matrix<'a>,
-    ghost square: { SoundSides topology matrix },
+    pub rows: Side<'a>,
+    pub matrix: Matrix<'a>,
+    ghost square: { (rows.ncols ≡ rows.nrows) × (matrix.nrows ≡ rows.nrows) × (matrix.ncols ≡ rows.nrows) },
+}
+
+// The matrix, the topology, its sides against the matrix's, its shape.
+#[tactic(auto, using(base::proofs::Checks::checks), unfolding(crate::specs::Run::square_topology, numeric_plan::specs::Plan::sides_check))]
+pub fn compare<'a>(
+    topology: AbtmDualTopology<'a>,
+    matrix: Csr32Matrix<'a>,
+) -> Result<Compared<'a>, Refusal>
+    ensures refused { IfErr result (λ e. (check_matrix matrix.entry then check_sides topology.entry matrix.entry) ≡ Err e) }
+    ensures accepted { IfOk result (λ c. (check_matrix matrix.entry ≡ Ok tt) × (check_sides topology.entry matrix.entry ≡ Ok tt) × AcceptedSide topology.entry.rows c.rows × AcceptedMatrix matrix.entry c.matrix) }
+{
+    let matrix = matrix.accept()?;
+    let rows = topology.accept()?.rows;
+    if rows.nrows != matrix.nrows {
+        return Err(Refusal::SidesDiffer);
+    }
+    if rows.ncols != matrix.ncols {
+        return Err(Refusal::SidesDiffer);
+    }
+    if rows.nrows != rows.ncols {
+        return Err(Refusal::NotSquare);
+    }
+    Ok(Compared { rows, matrix })
 }
 
 impl<'a> Compared<'a> {
     // 23 and 24 over a mask's rows, and what they hold.
     fn bind(self, words: &'a [u64]) -> Result<Counts, Refusal>
-        requires { IsMask self.topology.rows.nrows words.now }
-        ensures { result ≡ answer (binding_check self.entry.topology.rows.nrows (in_mask words.now) (holds self.entry.topology.rows) (stores self.entry.matrix)) (counts_of self.entry.topology.rows.nrows (in_mask words.now) (holds self.entry.topology.rows) self.entry.matrix.row_ptr.now self.entry.matrix.col_idx.now) }
+        requires { IsMask self.rows.nrows words.now }
+        ensures { result ≡ answer (binding_check self.entry.rows.nrows (in_mask words.now) (pairs self.entry.rows) (entries self.entry.matrix)) (counts_of self.entry.rows.nrows (in_mask words.now) (pairs self.entry.rows) self.entry.matrix.row_ptr.now self.entry.matrix.col_idx.now) }
     {
-        let n = self.topology.rows.nrows;
-        let rows = Side {
-            nrows: n,
-            ncols: n,
-            row_word_ptr: self.topology.rows.row_word_ptr,
-            word_indices: self.topology.rows.word_indices,
-            masks: self.topology.rows.masks,
+        let region = Mask {
+            len: self.rows.nrows,
+            words,
         };
-        let matrix = Matrix {
-            nrows: n,
-            ncols: n,
-            row_ptr: self.matrix.row_ptr,
-            col_idx: self.matrix.col_idx,
+        let local = Local {
+            rows: self.rows,
+            region,
         };
-        let region = Mask { len: n, words };
-        let local = Local { rows, region };
-        System { local, matrix }.bind()
+        System {
+            local,
+            matrix: self.matrix,
+        }
+        .bind()
     }
 
     // The same over all rows, by a mask that is filled here.
     fn check_filled(self, all: &mut [u64]) -> Result<(), Refusal>
-        requires { all.old ≡ mask_words self.topology.rows.nrows (λ i. false) }
-        ensures { result ≡ pairs_check self.entry.topology.rows.nrows (holds self.entry.topology.rows) (stores self.entry.matrix) }
+        requires { all.old ≡ mask_words self.rows.nrows (λ i. false) }
+        ensures { result ≡ pairs_check self.entry.rows.nrows (pairs self.entry.rows) (entries self.entry.matrix) }
     {
-        let n = self.topology.rows.nrows;
+        let n = self.rows.nrows;
         mask::inner::add_range(n, all, 0, n);
         self.bind(all)?;
         Ok(())
     }
 
-    // The same with a mask of its own: 16,384 words hold the 1,048,576 nodes that a matrix has at most.
+    // The same with a mask of its own, in a fixed array, since nothing is on the heap: 16,384 words hold the 1,048,576 nodes that a matrix has at most.
     fn check_pairs(self) -> Result<(), Refusal>
-        ensures { result ≡ pairs_check self.entry.topology.rows.nrows (holds self.entry.topology.rows) (stores self.entry.matrix) }
+        ensures { result ≡ pairs_check self.entry.rows.nrows (pairs self.entry.rows) (entries self.entry.matrix) }
     {
         let mut all: [u64; 16384] = [0; 16384];
-        let need = mask::inner::words_for(self.topology.rows.nrows);
+        let need = mask::inner::words_for(self.rows.nrows);
         self.check_filled(&mut all[0..need])
     }
 
     // The mask, 23 and 24 over all rows, and one room for each growth.
-    pub fn check_arrays(self, seeds: DofMask, hops: &[u64], rooms: &[u64]) -> Result<(), Refusal>
-        ensures { result ≡ lent_arrays self.entry.topology self.entry.matrix seeds.entry.len seeds.entry.words.now hops.now rooms.now }
+    pub fn check_lists(self, seeds: DofMask, hops: &[u64], rooms: &[u64]) -> Result<(), Refusal>
+        ensures { result ≡ arrays_check self.entry.rows.nrows seeds.entry.len seeds.entry.words.now (pairs self.entry.rows) (entries self.entry.matrix) hops.now rooms.now }
     {
-        mask::inner::check_length(self.topology.rows.nrows, seeds.len, seeds.words)?;
+        mask::inner::check_length(self.rows.nrows, seeds.len, seeds.words)?;
         self.check_pairs()?;
         if rooms.len() != hops.len() {
             return Err(Refusal::wrong_length(hops.len(), rooms.len()));

@@ -1,5 +1,6 @@
 -- What document 01 says of a matrix, of one that is lent and of one that was accepted.
-use Rattle.std.specs.Prelude.{Bool, ℕ}
+-- `x_check` says what is refused, of numbers and lists as document 01 names them; `check_x` says the same of the struct that they are lent in.
+use Rattle.std.specs.Prelude.{◌≡◌, Bool, ℕ}
 use Rattle.base.specs.Checks.{Check}
 use Rattle.csr32.specs.declared.Csr32Matrix.{Csr32Matrix}
 use Rattle.csr32.specs.declared.inner.Matrix.{Matrix}
@@ -15,3 +16,7 @@ stores m = stored m.row_ptr.now m.col_idx.now
 
 abbrev pub entries : Matrix → ℕ → ℕ → Bool
 entries m = stored m.row_ptr.now m.col_idx.now
+
+-- the lent matrix as it was accepted
+abbrev pub AcceptedFrom : Csr32Matrix → Matrix → Type 0
+AcceptedFrom c m = (m.nrows ≡ c.nrows) × (m.ncols ≡ c.ncols) × (m.row_ptr ≡ c.row_ptr) × (m.col_idx ≡ c.col_idx)

@@ -1,5 +1,9 @@
 // A matrix that was accepted, for callers that have checked: no part of the API.
+ghost use Rattle.std.specs.Prelude.{◌≡◌, Err, IfOk, IfErr};
 ghost use Rattle.csr32.specs.Matrix.{IsMatrix};
+
+use crate::Csr32Matrix;
+use base::Refusal;
 
 // Where its entries stand; most work on a matrix has no use for their values.
 #[derive(Clone, Copy)]
@@ -9,4 +13,21 @@ pub struct Matrix<'a> {
     pub row_ptr: &'a [u32],
     pub col_idx: &'a [u32],
     ghost accepted: { IsMatrix nrows ncols row_ptr.now col_idx.now },
+}
+
+impl<'a> Csr32Matrix<'a> {
+    ghost use Rattle.csr32.specs.Views.{check_matrix, AcceptedFrom};
+
+    pub fn accept(self) -> Result<Matrix<'a>, Refusal>
+        ensures refused { IfErr result (λ e. check_matrix self.entry ≡ Err e) }
+        ensures accepted { IfOk result (λ m. (check_matrix self.entry ≡ Ok tt) × AcceptedFrom self.entry m) }
+    {
+        self.validate()?;
+        Ok(Matrix {
+            nrows: self.nrows,
+            ncols: self.ncols,
+            row_ptr: self.row_ptr,
+            col_idx: self.col_idx,
+        })
+    }
 }

@@ -97,9 +97,9 @@ module _ (n : ℕ) (p : ℕ → Bool) (s : ℕ → ℕ → Bool) (ptr cols : Lis
           ∙ over_zeros (plan_sources (pair_entries n p s ptr cols)) before written terms (length cols) w terms-is (omega (arith, terms-is, few_sources))
           ∙ ap (λ (t : ℕ → ℕ → Bool). over_with_zeros (plan_sources (pair_entries n p t ptr cols)) (length cols) before) same
 
-    pub stats-left : (a : AbtmLocalSubmatrixPatternStats) (b : AbtmLocalNumericPlanStats) → a ≡ pattern-steps.stats_of n kept → b ≡ plan-steps.stats_of counted
+    pub stats-left : (a : AbtmLocalSubmatrixPatternStats) (b : AbtmLocalNumericPlanStats) → a ≡ pattern-steps.stats_by_counts n kept → b ≡ plan-steps.plan_by_counts counted
         → ◌≡◌ {A = LocalStats} (record { pattern = a; numeric_plan = b }) (local_stats n p ptr cols)
     stats-left a b ea eb =
         ap₂ (λ (x : AbtmLocalSubmatrixPatternStats) (y : AbtmLocalNumericPlanStats). record { pattern = x; numeric_plan = y })
-        (ea ∙ ap (pattern-steps.stats_of n) ek ∙ ap (stats_of_pattern n p) same)
+        (ea ∙ ap (pattern-steps.stats_by_counts n) ek ∙ ap (stats_of_pattern n p) same)
         (stats_are n p s ptr cols m binds counted counts-are b eb ∙ ap (λ (t : ℕ → ℕ → Bool). plan_stats n p (pair_entries n p t ptr cols)) same)

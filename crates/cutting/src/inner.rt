@@ -39,8 +39,8 @@ struct Prepared<'a> {
     ghost own: { pairs fields.graph.topology.rows ≡ entries matrix },
 }
 
-// The lists that are written are parameters of their own, here and below: what is said of each is said of what it held before.
-// The five lists are zeroed past what a plan of so many members, pairs and sources writes.
+// The five lists are zeroed past what a plan of so many members, pairs and sources writes. The lists that are written are handed in one by one, here and
+// below, each with its equation: in a struct behind `&mut` each contract would say besides that the references stay.
 fn zero_past(
     n: usize,
     entries: usize,
@@ -67,8 +67,8 @@ fn zero_past(
 }
 
 impl<'a> Prepared<'a> {
-    // The pattern and the plan of a region: each list zero past its own part up to its needed length. The region is the
-    // front of a list that the caller writes.
+    // The pattern and the plan of a region: each list zero past its own part up to its needed length. The region is the front of a list that the caller
+    // writes.
     fn plan(
         self,
         region: &'a [u64],

@@ -15,7 +15,7 @@ pub struct LocalStats {
     pub numeric_plan: AbtmLocalNumericPlanStats,
 }
 
-// The same with those of the growth.
+// The statistics of a growth, and of the pattern and plan of its region.
 #[derive(Clone, Copy)]
 pub struct RegionCut {
     pub growth: FieldAwareRegionStats,

@@ -2,27 +2,38 @@
 // What a call writes is lent to it in arrays: memory is fixed, as a rule of the project.
 #![tactic(auto)]
 
-use base::Refusal;
 use claims::GrowthRun;
 use csr32::Csr32Matrix;
 use dual_topology::AbtmDualTopology;
 use hybit_matrix::Answer;
 use side::AbtmTopology;
-use std::io;
+use std::{fmt, io};
+
+// An answer in words.
+#[derive(Clone, Copy)]
+struct Said(Answer);
+
+impl fmt::Display for Said {
+    fn fmt<W: fmt::Write>(&self, f: &mut fmt::Formatter<W>) -> fmt::Result {
+        let a = self.0;
+        if a.number == 11 {
+            write!(
+                f,
+                "refused 11, expected {}, actual {}",
+                a.expected, a.actual
+            )
+        } else if a.number != 0 {
+            write!(f, "refused {}", a.number)
+        } else if a.present {
+            write!(f, "{}", a.value)
+        } else {
+            write!(f, "none")
+        }
+    }
+}
 
 fn show(rt: &impl Print, what: &str, a: Answer) -> io::Result<()> {
-    if a.number == 11 {
-        println!(rt;
-            "{what}: refused 11, expected {}, actual {}",
-            a.expected, a.actual
-        )
-    } else if a.number != 0 {
-        println!(rt; "{what}: refused {}", a.number)
-    } else if a.present {
-        println!(rt; "{what}: {}", a.value)
-    } else {
-        println!(rt; "{what}: none")
-    }
+    println!(rt; "{what}: {}", Said(a))
 }
 
 // The same of a call that answers acceptance only.

@@ -1,8 +1,9 @@
 -- What document 01 says of a layout that is lent.
-use Rattle.std.specs.Prelude.{ℕ}
+use Rattle.std.specs.Prelude.{◌≡◌, ℕ}
 use Rattle.base.specs.Checks.{Check}
 use Rattle.dof_layout.specs.declared.FieldBlocks.{FieldBlocks}
 use Rattle.dof_layout.specs.declared.FieldAwareDofLayout.{FieldAwareDofLayout}
+use Rattle.dof_layout.specs.declared.inner.Layout.{Layout}
 use Rattle.dof_layout.specs.Layout.{total_of, blocks_check, layout_check, IsLayout}
 use Rattle.dof_layout.specs.Answers.{square_check}
 
@@ -25,3 +26,7 @@ SoundLayout l = IsLayout l.blocks.entity_kinds.now l.blocks.entity_ids.now l.blo
 -- how many nodes it has
 abbrev pub total : FieldAwareDofLayout → ℕ
 total l = total_of l.blocks.components.now
+
+-- the lent layout as it was accepted
+abbrev pub AcceptedFrom : FieldAwareDofLayout → Layout → Type 0
+AcceptedFrom l a = (a.components ≡ l.blocks.components) × (a.offsets ≡ l.offsets)

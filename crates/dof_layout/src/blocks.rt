@@ -3,16 +3,16 @@ ghost use Rattle.std.specs.Prelude.{◌≡◌, ◌+◌, ◌<◌, ◌≤◌, leng
 ghost use Rattle.base.specs.Checks.{checks_below, side_limit};
 ghost use Rattle.dof_layout.specs.Layout.{is_kind_code, block_check};
 
-use crate::FieldBlocks;
+use crate::{DofEntityKind, FieldBlocks};
 use base::Refusal;
 use twins::inner::Keys;
 
-// A kind stands in C's lists as its number, and is only tested here.
-#[tactic(auto, unfolding(crate::specs::Layout::is_kind_code))]
+// A kind stands in C's lists as its number.
+#[tactic(auto, unfolding(base::specs::Checks::must))]
 fn is_kind(kind: u8) -> bool
     ensures { result ≡ is_kind_code kind }
 {
-    kind != 0 && (kind < 7 || kind == 255)
+    DofEntityKind::try_from(kind as u32).is_ok()
 }
 
 // Up to which block twins are searched next. It grows with what is checked, so that an early refusal costs little.
@@ -23,7 +23,8 @@ fn reach_from(b: usize, count: usize) -> usize
     (4 * b + 64).min(count).min(base::SIDE_LIMIT + 1)
 }
 
-// The first block that is refused decides. Every block that passes has a component at least: no block past the limit is reached.
+// The first block that is refused decides. Every block that passes has a component at least: no block past the limit is reached. The outer loop jumps
+// from reach to reach, which no range does.
 fn check_each(keys: Keys, components: &[u32]) -> Result<(), Refusal>
     requires { length components.now ≡ length keys.kinds.now }
     ensures { result ≡ checks_below (length keys.entry.kinds.now) (block_check keys.entry.kinds.now keys.entry.ids.now keys.entry.fields.now components.now) }

@@ -1,11 +1,14 @@
 // The work of a layout's functions, for callers that have checked: no part of the API.
-ghost use Rattle.std.specs.Prelude.{◌≡◌, ℕ, ◌<◌, ◌≤◌, length, get_or};
+ghost use Rattle.std.specs.Prelude.{◌≡◌, Err, IfOk, IfErr, ℕ, ◌<◌, ◌≤◌, length, get_or};
 ghost use Rattle.base.specs.Checks.{side_limit};
 ghost use Rattle.base.specs.Lists.{same_list, over};
 ghost use Rattle.mask.specs.Mask.{words_needed, mask_words};
 ghost use Rattle.dof_layout.specs.Layout.{start_of, total_of, offsets_of, block_of};
 ghost use Rattle.dof_layout.specs.Answers.{has_field};
 ghost use Rattle.dof_layout.specs.Runs.{Run};
+
+use crate::FieldAwareDofLayout;
+use base::Refusal;
 
 // Where the blocks of a layout that was accepted begin and end.
 #[derive(Clone, Copy)]
@@ -52,7 +55,8 @@ pub fn are_offsets(components: &[u32], offsets: &[u64]) -> bool
     offsets[components.len()] == total
 }
 
-// The first block from a on that does not have the field, or the number of blocks.
+// The first block from a on that does not have the field, or the number of blocks, where the last run ends: `position` would count from a, and answer
+// none there.
 fn run_end(fields: &[u32], field: u32, a: usize) -> usize
     requires { a ≤ length fields.now }
     ensures { Run fields.now field a result }
@@ -65,6 +69,38 @@ fn run_end(fields: &[u32], field: u32, a: usize) -> usize
     fields.len()
 }
 
+impl<'a> FieldAwareDofLayout<'a> {
+    ghost use Rattle.dof_layout.specs.Views.{check_layout, check_square, total, SoundLayout, AcceptedFrom};
+
+    #[tactic(auto, using(crate::proofs::Layouts::views))]
+    pub fn accept(self) -> Result<Layout<'a>, Refusal>
+        ensures refused { IfErr result (λ e. check_layout self.entry ≡ Err e) }
+        ensures accepted { IfOk result (λ l. (check_layout self.entry ≡ Ok tt) × SoundLayout self.entry × AcceptedFrom self.entry l) }
+    {
+        self.check()?;
+        Ok(Layout {
+            components: self.blocks.components,
+            offsets: self.offsets,
+        })
+    }
+
+    // A layout that must have as many nodes as a matrix has rows and columns.
+    pub fn accept_square(self, nrows: usize, ncols: usize) -> Result<Layout<'a>, Refusal>
+        ensures refused { IfErr result (λ e. check_square self.entry nrows ncols ≡ Err e) }
+        ensures accepted { IfOk result (λ l. (check_square self.entry nrows ncols ≡ Ok tt) × (nrows ≡ total self.entry) × (ncols ≡ total self.entry) × AcceptedFrom self.entry l) }
+    {
+        let layout = self.accept()?;
+        let total = layout.total();
+        if nrows != total {
+            return Err(Refusal::TotalNotSides);
+        }
+        if ncols != total {
+            return Err(Refusal::TotalNotSides);
+        }
+        Ok(layout)
+    }
+}
+
 impl Layout<'_> {
     // How many nodes it has: the last offset.
     #[tactic(auto, using(crate::proofs::Layouts::last))]
@@ -74,7 +110,8 @@ impl Layout<'_> {
         self.offsets[self.components.len()] as usize
     }
 
-    // The block of node `dof`, which lies between the offsets at `low` and at `high`: the half of them that brackets it.
+    // The block of node `dof`, which lies between the offsets at `low` and at `high`: the half of them that brackets it. Document 01 halves the
+    // blocks by a call of its own, and so does this.
     pub fn locate(self, low: usize, high: usize, dof: u64) -> usize
         requires { (low < high) × (high ≤ length self.components.now) × (start_of self.components.now low ≤ dof) × (dof < start_of self.components.now high) }
         ensures { result ≡ block_of self.entry.components.now dof }
@@ -90,7 +127,8 @@ impl Layout<'_> {
         }
     }
 
-    // The mask of the nodes whose block has the field, on a list of exactly its words. Neighbouring blocks of the field are one range.
+    // The mask of the nodes whose block has the field, on a list of exactly its words. Neighbouring blocks of the field are one range: the loop jumps
+    // past each.
     pub fn fill_field(self, fields: &[u32], field: u32, words: &mut [u64])
         requires { (length fields.now ≡ length self.components.now) × (length words.old ≡ words_needed (total_of self.components.now)) }
         ensures { words.new ≡ mask_words (total_of self.entry.components.now) (has_field fields.now self.entry.components.now field) }

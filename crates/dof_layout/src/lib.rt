@@ -6,11 +6,11 @@ ghost use Rattle.std.specs.Prelude.{◌≡◌, IfOk};
 ghost use Rattle.dof_layout.specs.Answers.{code_of, kind_answer, new_answer, new_offsets, total_answer, range_answer, locate_answer, field_answer, field_words};
 
 use base::Refusal;
-use inner::Layout;
 
 mod blocks;
 pub mod inner;
 
+// What a block's unknowns belong to.
 #[derive(Clone, Copy)]
 pub enum DofEntityKind {
     Node,
@@ -22,14 +22,14 @@ pub enum DofEntityKind {
     Other,
 }
 
-// The block of a node, and which of the block's components the node is.
+// The block of a node, and which of the block's components the node is: the Rust's record, of C too.
 #[derive(Clone, Copy)]
 pub struct DofAddress {
     pub block_index: usize,
     pub component: u32,
 }
 
-// The nodes from `start` up to `end`.
+// The nodes from `start` up to `end`: the Rust's answer, and a record of C. The library's `Range` has no layout that C knows, and is no Copy.
 #[derive(Clone, Copy)]
 pub struct Range {
     pub start: u64,
@@ -52,7 +52,7 @@ pub struct FieldAwareDofLayout<'a> {
     pub offsets: &'a [u64],
 }
 
-// Its number.
+// The number of a kind.
 impl From<DofEntityKind> for u32 {
     ghost from_gives = { λ k n. n ≡ code_of k };
 
@@ -121,41 +121,33 @@ impl FieldAwareDofLayout<'_> {
     pub fn total_dofs(self) -> Result<u64, Refusal>
         ensures { result ≡ total_answer self.entry.blocks.entity_kinds.now self.entry.blocks.entity_ids.now self.entry.blocks.field_ids.now self.entry.blocks.components.now self.entry.offsets.now }
     {
-        self.check()?;
-        let layout = Layout {
-            components: self.blocks.components,
-            offsets: self.offsets,
-        };
+        let layout = self.accept()?;
         Ok(layout.total() as u64)
     }
 
     pub fn block_range(self, index: u64) -> Result<Option<Range>, Refusal>
         ensures { result ≡ range_answer self.entry.blocks.entity_kinds.now self.entry.blocks.entity_ids.now self.entry.blocks.field_ids.now self.entry.blocks.components.now self.entry.offsets.now index }
     {
-        self.check()?;
-        if index >= self.blocks.entity_kinds.len() as u64 {
+        let layout = self.accept()?;
+        if index >= layout.components.len() as u64 {
             return Ok(None);
         }
         let b = index as usize;
         Ok(Some(Range {
-            start: self.offsets[b],
-            end: self.offsets[b + 1],
+            start: layout.offsets[b],
+            end: layout.offsets[b + 1],
         }))
     }
 
     pub fn locate(self, dof: u64) -> Result<Option<DofAddress>, Refusal>
         ensures { result ≡ locate_answer self.entry.blocks.entity_kinds.now self.entry.blocks.entity_ids.now self.entry.blocks.field_ids.now self.entry.blocks.components.now self.entry.offsets.now dof }
     {
-        self.check()?;
-        let layout = Layout {
-            components: self.blocks.components,
-            offsets: self.offsets,
-        };
+        let layout = self.accept()?;
         if dof >= layout.total() as u64 {
             return Ok(None);
         }
         let block_index = layout.locate(0, layout.components.len(), dof);
-        let component = (dof - self.offsets[block_index]) as u32;
+        let component = (dof - layout.offsets[block_index]) as u32;
         Ok(Some(DofAddress {
             block_index,
             component,
@@ -165,31 +157,17 @@ impl FieldAwareDofLayout<'_> {
     pub fn validate_square_matrix_size(self, nrows: usize, ncols: usize) -> Result<(), Refusal>
         ensures { result ≡ check_square self.entry nrows ncols }
     {
-        self.check()?;
-        let layout = Layout {
-            components: self.blocks.components,
-            offsets: self.offsets,
-        };
-        let total = layout.total();
-        if nrows != total {
-            return Err(Refusal::TotalNotSides);
-        }
-        if ncols != total {
-            return Err(Refusal::TotalNotSides);
-        }
+        self.accept_square(nrows, ncols)?;
         Ok(())
     }
 
-    // The mask of the nodes whose block has the field; answers its length.
+    // The mask of the nodes whose block has the field; answers its length. The room is tested and the list cut here: a function for both would hand
+    // back a part that is written, and each contract would say besides what becomes of the rest.
     pub fn field_mask(self, field_id: u32, out: &mut [u64]) -> Result<u64, Refusal>
         ensures value { result ≡ field_answer self.entry.blocks.entity_kinds.now self.entry.blocks.entity_ids.now self.entry.blocks.field_ids.now self.entry.blocks.components.now self.entry.offsets.now out.old }
         ensures out_after { out.new ≡ field_words self.entry.blocks.entity_kinds.now self.entry.blocks.entity_ids.now self.entry.blocks.field_ids.now self.entry.blocks.components.now self.entry.offsets.now field_id out.old }
     {
-        self.check()?;
-        let layout = Layout {
-            components: self.blocks.components,
-            offsets: self.offsets,
-        };
+        let layout = self.accept()?;
         let total = layout.total();
         let need = mask::inner::words_for(total);
         if out.len() < need {

@@ -1,6 +1,8 @@
 -- What the check of a topology accepts: exactly two sides of one set of pairs. Assumes nothing.
 use mathlib.Core.Path.{◌≡◌, refl, sym, ap, ◌∙◌, fun_ext}
-use Rattle.std.specs.Prelude.{Ok}
+use Rattle.std.specs.Prelude.{Result, Ok, Err}
+use Rattle.std.specs.Result.{IsErrAnd}
+use Rattle.std.proofs.lemmas.Result.{err_from_is_err_and}
 use mathlib.Core.Logic.{◌⊎◌, inl, inr}
 use mathlib.Core.Bool.{Bool, true, false, cond, ◌&&◌}
 use mathlib.Core.List.{List}
@@ -15,31 +17,26 @@ use Rattle.base.proofs.Checks.{both-passed}
 use Rattle.side.specs.Side.{flip, side_words, side_masks, side_ptr, pair_count, side_holds}
 use Rattle.side.specs.Check.{bits_in, IsSide}
 use Rattle.side.specs.declared.Fault.{Fault}
-use Rattle.side.proofs.Sides.{held-row, held-col, own-words, own-masks, own-ptr, side-holds, side-is, side-count, as_many, pairs-flip}
-use Rattle.side.proofs.Accepted.{limits_passed, limits_pass, sound-only, sound-accepted, lists-not-sound, word-not-sound, disagree-not-sound, sound-side, side-sound, side-as}
+use Rattle.side.proofs.Sides.{held-row, held-col, side-holds, side-is, side-count, as_many, pairs-flip}
+use Rattle.side.proofs.Accepted.{limits_passed, limits_pass, sound-only, sound-accepted, fault-not-sound, sound-side, side-sound, side-as}
 use Rattle.agreement.specs.Agreement.{turned}
 use Rattle.agreement.proofs.Turned.{turned_pair, pair-turned}
 use Rattle.dual_topology.specs.Check.{first_fault, sides_agree, topology_fault, topology_check, IsTopology}
 
 -- ---- the first of two faults
 
-pub first-sound : (a b : Fault) → first_fault a b ≡ Fault.Sound → (a ≡ Fault.Sound) × (b ≡ Fault.Sound)
+pub first-sound : (a b : Result Unit Fault) → first_fault a b ≡ Ok tt → (a ≡ Ok tt) × (b ≡ Ok tt)
 unfolding first_fault
-first-sound Fault.Sound b e = (refl, e)
-first-sound Fault.Lists b e = absurd (lists-not-sound e)
-first-sound (Fault.Word w) b e = absurd (word-not-sound w e)
-first-sound Fault.Disagree b e = absurd (disagree-not-sound e)
+first-sound (Ok tt) b e = (refl, e)
+first-sound (Err f) b e = absurd (fault-not-sound f e)
 
-pub first_next : (a b : Fault) → a ≡ Fault.Sound → first_fault a b ≡ b
+pub first_next : (a b : Result Unit Fault) → a ≡ Ok tt → first_fault a b ≡ b
 unfolding first_fault
-first_next a b e = ap (λ (f : Fault). first_fault f b) e
+first_next a b e = ap (λ (r : Result Unit Fault). first_fault r b) e
 
-pub first-other : (a b : Fault) → (a ≡ Fault.Sound → ⊥) → a ≡ first_fault a b
+pub first_handed : (a b r : Result Unit Fault) (f : Fault) → a ≡ Err f → IsErrAnd r (λ y. y ≡ f) → r ≡ first_fault a b
 unfolding first_fault
-first-other Fault.Sound b n = absurd (n refl)
-first-other Fault.Lists b n = refl
-first-other (Fault.Word w) b n = refl
-first-other Fault.Disagree b n = refl
+first_handed a b r f e h = let p = err_from_is_err_and r h in p.1 ∙ ap Err p.2 ∙ sym (ap (λ (x : Result Unit Fault). first_fault x b) e)
 
 -- ---- an accepted topology
 
@@ -75,13 +72,13 @@ module _ (nrows ncols : ℕ) (ptr idx masks : List ℕ) (pairs nrows2 ncols2 : �
   unfolding sides_agree
   agreeing a b c t = rw (eq-eqb nrows2 ncols a, eq-eqb ncols2 nrows b, eq-eqb pairs2 pairs c, t) refl
 
-  pub not-agreed : (sides_agree nrows ncols ptr idx masks pairs nrows2 ncols2 ptr2 idx2 masks2 pairs2 ≡ true → ⊥) → Fault.Disagree ≡ cond (sides_agree nrows ncols ptr idx masks pairs nrows2 ncols2 ptr2 idx2 masks2 pairs2) Fault.Sound Fault.Disagree
+  pub not-agreed : (sides_agree nrows ncols ptr idx masks pairs nrows2 ncols2 ptr2 idx2 masks2 pairs2 ≡ true → ⊥) → ◌≡◌ {A = Result Unit Fault} (Err Fault.Disagree) (cond (sides_agree nrows ncols ptr idx masks pairs nrows2 ncols2 ptr2 idx2 masks2 pairs2) (Ok tt) (Err Fault.Disagree))
   not-agreed f =
-      sym (ap (λ (b : Bool). cond b Fault.Sound Fault.Disagree) (T_false (sides_agree nrows ncols ptr idx masks pairs nrows2 ncols2 ptr2 idx2 masks2 pairs2) (λ t. f (T_true (sides_agree nrows ncols ptr idx masks pairs nrows2 ncols2 ptr2 idx2 masks2 pairs2) t))))
+      sym (ap (λ (b : Bool). cond b (Ok tt) (Err Fault.Disagree)) (T_false (sides_agree nrows ncols ptr idx masks pairs nrows2 ncols2 ptr2 idx2 masks2 pairs2) (λ t. f (T_true (sides_agree nrows ncols ptr idx masks pairs nrows2 ncols2 ptr2 idx2 masks2 pairs2) t))))
 
   -- two sides without fault that agree
   pub agreed-topology : IsSide nrows ncols ptr idx masks → pairs ≡ bits_in masks 0 (length masks) → IsSide nrows2 ncols2 ptr2 idx2 masks2
-      → cond (sides_agree nrows ncols ptr idx masks pairs nrows2 ncols2 ptr2 idx2 masks2 pairs2) Fault.Sound Fault.Disagree ≡ Fault.Sound
+      → ◌≡◌ {A = Result Unit Fault} (cond (sides_agree nrows ncols ptr idx masks pairs nrows2 ncols2 ptr2 idx2 masks2 pairs2) (Ok tt) (Err Fault.Disagree)) (Ok tt)
       → Accepts nrows ncols ptr idx masks pairs nrows2 ncols2 ptr2 idx2 masks2 pairs2
   agreed-topology r counted c e =
       let a = agreed (both (sides_agree nrows ncols ptr idx masks pairs nrows2 ncols2 ptr2 idx2 masks2 pairs2) e) in
@@ -93,9 +90,9 @@ module _ (nrows ncols : ℕ) (ptr idx masks : List ℕ) (pairs nrows2 ncols2 : �
         counted = counted;
       }
     where
-      both : (b : Bool) → cond b Fault.Sound Fault.Disagree ≡ Fault.Sound → b ≡ true
+      both : (b : Bool) → ◌≡◌ {A = Result Unit Fault} (cond b (Ok tt) (Err Fault.Disagree)) (Ok tt) → b ≡ true
       both true e = refl
-      both false e = absurd (disagree-not-sound e)
+      both false e = absurd (fault-not-sound Fault.Disagree e)
 
   pub accepted-topology : ((k : ℕ) → get_or masks k 0 < 2 ^ 64) → ((k : ℕ) → get_or masks2 k 0 < 2 ^ 64) → topology_check nrows ncols ptr idx masks pairs nrows2 ncols2 ptr2 idx2 masks2 pairs2 ≡ Ok tt
       → Accepts nrows ncols ptr idx masks pairs nrows2 ncols2 ptr2 idx2 masks2 pairs2
@@ -142,25 +139,6 @@ module _ (nrows ncols : ℕ) (ptr idx masks ptr2 idx2 masks2 : List ℕ) (m : Is
 
   pub flipped-are : columns ≡ flip rows
   flipped-are = fun_ext (λ c. fun_ext (λ r. columns-are c r))
-
-  -- its six lists are those of the two sides of its own set of pairs
-  pub record Own : Type 0 where
-    pub row_ptr : ptr ≡ side_ptr nrows ncols rows
-    pub row_words : idx ≡ side_words nrows ncols rows
-    pub row_masks : masks ≡ side_masks nrows ncols rows
-    pub column_ptr : ptr2 ≡ side_ptr ncols nrows (flip rows)
-    pub column_words : idx2 ≡ side_words ncols nrows (flip rows)
-    pub column_masks : masks2 ≡ side_masks ncols nrows (flip rows)
-
-  pub own_topology : Own
-  own_topology = record {
-    row_ptr = own-ptr nrows ncols ptr idx masks m.rows;
-    row_words = own-words nrows ncols ptr idx masks m.rows;
-    row_masks = own-masks nrows ncols ptr idx masks m.rows;
-    column_ptr = own-ptr ncols nrows ptr2 idx2 masks2 m.columns ∙ ap (side_ptr ncols nrows) flipped-are;
-    column_words = own-words ncols nrows ptr2 idx2 masks2 m.columns ∙ ap (side_words ncols nrows) flipped-are;
-    column_masks = own-masks ncols nrows ptr2 idx2 masks2 m.columns ∙ ap (side_masks ncols nrows) flipped-are;
-  }
 
 -- and the two sides of a set of pairs within the limits are an accepted topology
 module _ (nrows ncols : ℕ) (s : ℕ → ℕ → Bool) (few_rows : nrows ≤ side_limit) (few_cols : ncols ≤ side_limit)
@@ -217,4 +195,4 @@ module _ (nrows ncols : ℕ) (s : ℕ → ℕ → Bool) (few_rows : nrows ≤ si
         side-sound ncols nrows P2 W2 M2 (pair_count nrows ncols s) sides-are.columns (sym (pairs-flip nrows ncols s) ∙ sym (side-count ncols nrows (flip s) (λ c r h t. in_row r c t))),
         agreeing nrows ncols P W M (pair_count nrows ncols s) ncols nrows P2 W2 M2 (pair_count nrows ncols s) refl refl refl sides-are.flipped,
       )
-      (sound-accepted Fault.Sound refl)
+      (sound-accepted (Ok tt) refl)

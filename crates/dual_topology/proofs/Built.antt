@@ -6,19 +6,18 @@ use mathlib.Core.List.{List}
 use Prim.Native.Nat.{ℕ, ◌+◌, ◌*◌, ◌≤◌, ◌<◌}
 use native.Mathlib.Omega.{arith}
 use borrow.Author.Tests.{ltb-true, leb-true}
-use lib.Ieee.{Float}
 use lib.ListN.{length}
 use Rattle.base.proofs.Checks.{both-passed, passed}
 use Rattle.base.proofs.Lists.{length-list_from}
 use Rattle.csr32.specs.Matrix.{stored, IsMatrix}
-use Rattle.csr32.proofs.Matrix.{accepted, stored_row, stored-col, pairs-le}
+use Rattle.csr32.proofs.Matrix.{stored_row, stored-col, pairs-le}
 use Rattle.base.specs.Checks.{entry_limit}
 use Rattle.side.specs.Side.{flip, side_ptr, side_words, side_masks, pair_count, side_holds}
 use Rattle.side.proofs.Sides.{as_many, side-pairs, side-words-le, pairs-flip}
 use Rattle.dual_topology.specs.Check.{topology_check, IsTopology}
 use Rattle.dual_topology.proofs.Accepted.{sides-are, sides-accepted}
 use Rattle.side.proofs.Accepted.{room-passed}
-use Rattle.dual_topology.specs.Answers.{build_room, build_check, counts_of, stats_of, counted_stats}
+use Rattle.dual_topology.specs.Answers.{build_room, counts_of, stats_of, counted_stats}
 use Rattle.dual_topology.specs.declared.TopologyCounts.{TopologyCounts}
 use Rattle.dual_topology.specs.declared.AbtmDualTopologyStats.{AbtmDualTopologyStats}
 
@@ -31,14 +30,6 @@ build-fits nrows ncols entries rptr ridx rmasks cptr cidx cmasks starts order e 
     let r = room-passed nrows entries rptr ridx rmasks e2.0 in
     let c = room-passed ncols entries cptr cidx cmasks e3.0 in
     (r.0, r.1, r.2, c.0, c.1, c.2, ltb-true _ _ (passed _ _ e4.0), leb-true _ _ (passed _ _ e4.1))
-
-pub build-passed : (nrows ncols : ℕ) (ptr cols : List ℕ) (values : List Float) (rptr ridx rmasks cptr cidx cmasks starts order : List ℕ)
-    → build_check nrows ncols ptr cols values rptr ridx rmasks cptr cidx cmasks starts order ≡ Ok tt
-    → IsMatrix nrows ncols ptr cols × ((nrows < length rptr) × (length cols ≤ length ridx) × (length cols ≤ length rmasks) × (ncols < length cptr) × (length cols ≤ length cidx) × (length cols ≤ length cmasks) × (ncols < length starts) × (length cols ≤ length order))
-unfolding build_check
-build-passed nrows ncols ptr cols values rptr ridx rmasks cptr cidx cmasks starts order e =
-    let a = both-passed _ _ e in
-    ((accepted nrows ncols ptr cols values a.0).matrix, build-fits nrows ncols (length cols) (length rptr) (length ridx) (length rmasks) (length cptr) (length cidx) (length cmasks) (length starts) (length order) a.1)
 
 -- what a building leaves is an accepted topology of exactly the matrix's pairs
 module _ (nrows ncols : ℕ) (ptr cols : List ℕ) (m : IsMatrix nrows ncols ptr cols) where

@@ -40,7 +40,7 @@ pub record Topologies : Type 0 where
   pub accepted : chain_check (2 ∷ 4 ∷ []) (1 ∷ 2 ∷ []) ≡ Ok tt
   pub not_turned : chain_check (2 ∷ 4 ∷ []) (1 ∷ 1 ∷ []) ≡ Err BadTopology
   pub zero_word : side_check 1 1 (0 ∷ 1 ∷ []) (0 ∷ []) (0 ∷ []) 0 ≡ Err BadTopology
-  pub which_word : side_fault 2 65 (0 ∷ 1 ∷ 3 ∷ []) (0 ∷ 1 ∷ 1 ∷ []) (1 ∷ 1 ∷ 1 ∷ []) 3 ≡ Fault.Word (record { row = 1; position = 2 })
+  pub which_word : side_fault 2 65 (0 ∷ 1 ∷ 3 ∷ []) (0 ∷ 1 ∷ 1 ∷ []) (1 ∷ 1 ∷ 1 ∷ []) 3 ≡ Err (Fault.Word (record { row = 1; position = 2 }))
   pub past_the_columns : side_check 1 65 (0 ∷ 1 ∷ []) (1 ∷ []) (2 ∷ []) 1 ≡ Err BadTopology
   pub last_column : side_check 1 65 (0 ∷ 1 ∷ []) (1 ∷ []) (1 ∷ []) 1 ≡ Ok tt
   pub too_wide : side_check 0 1048577 (0 ∷ []) [] [] 0 ≡ Err OverLimit

@@ -1,6 +1,6 @@
 -- The check of a topology: refusal 1 for each side, then 9. The faults come in the order rows, columns, agreement. Each side comes with its
 -- own sizes and pair count, so that two can disagree.
-use Rattle.std.specs.Prelude.{◌≡◌, Bool, true, cond, ◌&&◌, List, ℕ, eqb}
+use Rattle.std.specs.Prelude.{◌≡◌, Bool, true, cond, ◌&&◌, List, ℕ, eqb, Result, Ok, Err}
 use Rattle.base.specs.Checks.{Check}
 use Rattle.base.specs.Checks.{◌then◌}
 use Rattle.side.specs.Side.{side_holds}
@@ -8,23 +8,21 @@ use Rattle.side.specs.Check.{limit_check, fault_check, side_fault, IsSide}
 use Rattle.side.specs.declared.Fault.{Fault}
 use Rattle.agreement.specs.Agreement.{turned}
 
--- the first fault of two
-unfoldable pub first_fault : Fault → Fault → Fault
-first_fault Fault.Sound next = next
-first_fault Fault.Lists next = Fault.Lists
-first_fault (Fault.Word w) next = Fault.Word w
-first_fault Fault.Disagree next = Fault.Disagree
+-- the first fault of two searches
+unfoldable pub first_fault : Result Unit Fault → Result Unit Fault → Result Unit Fault
+first_fault (Ok _) next = next
+first_fault (Err f) next = Err f
 
 -- the columns side has the shape of the rows side turned round, as many pairs, and exactly its pairs
 unfoldable pub sides_agree : ℕ → ℕ → List ℕ → List ℕ → List ℕ → ℕ → ℕ → ℕ → List ℕ → List ℕ → List ℕ → ℕ → Bool
 sides_agree nrows ncols ptr idx masks pairs nrows2 ncols2 ptr2 idx2 masks2 pairs2 =
     eqb nrows2 ncols && eqb ncols2 nrows && eqb pairs2 pairs && turned nrows ncols (side_holds ptr idx masks) (side_holds ptr2 idx2 masks2)
 
-unfoldable pub topology_fault : ℕ → ℕ → List ℕ → List ℕ → List ℕ → ℕ → ℕ → ℕ → List ℕ → List ℕ → List ℕ → ℕ → Fault
+unfoldable pub topology_fault : ℕ → ℕ → List ℕ → List ℕ → List ℕ → ℕ → ℕ → ℕ → List ℕ → List ℕ → List ℕ → ℕ → Result Unit Fault
 topology_fault nrows ncols ptr idx masks pairs nrows2 ncols2 ptr2 idx2 masks2 pairs2 =
     first_fault (side_fault nrows ncols ptr idx masks pairs)
     (first_fault (side_fault nrows2 ncols2 ptr2 idx2 masks2 pairs2)
-    (cond (sides_agree nrows ncols ptr idx masks pairs nrows2 ncols2 ptr2 idx2 masks2 pairs2) Fault.Sound Fault.Disagree))
+    (cond (sides_agree nrows ncols ptr idx masks pairs nrows2 ncols2 ptr2 idx2 masks2 pairs2) (Ok tt) (Err Fault.Disagree)))
 
 -- a topology: 1, 9
 unfoldable pub topology_check : ℕ → ℕ → List ℕ → List ℕ → List ℕ → ℕ → ℕ → ℕ → List ℕ → List ℕ → List ℕ → ℕ → Check

@@ -1,13 +1,14 @@
 -- What document 01 says of a topology that is lent.
-use Rattle.std.specs.Prelude.{◌≡◌, Ok, Bool, List, ℕ, ◌<◌, length}
+use Rattle.std.specs.Prelude.{◌≡◌, Result, Ok, Bool, List, ℕ, length}
 use Rattle.base.specs.Checks.{Check}
 use Rattle.csr32.specs.declared.Csr32Matrix.{Csr32Matrix}
-use Rattle.side.specs.declared.inner.Side.{Side}
+use Rattle.side.specs.declared.inner.RowWords.{RowWords}
 use Rattle.side.specs.declared.Fault.{Fault}
 use Rattle.side.specs.Check.{bits_in}
-use Rattle.side.specs.Views.{holds, pairs}
+use Rattle.side.specs.Views.{holds, held, AcceptedFrom as AcceptedSide}
 use Rattle.dual_topology.specs.declared.AbtmDualTopology.{AbtmDualTopology}
 use Rattle.dual_topology.specs.declared.RowOf.{RowOf}
+use Rattle.dual_topology.specs.declared.inner.Topology.{Topology}
 use Rattle.dual_topology.specs.Check.{sides_agree, topology_fault, topology_check, IsTopology}
 use Rattle.dual_topology.specs.Answers.{build_check, row_check, rows_of, width_of, row_set}
 
@@ -18,7 +19,7 @@ check_topology t =
     t.columns.nrows t.columns.ncols t.columns.row_word_ptr.now t.columns.word_indices.now t.columns.masks.now t.columns.structural_nnz
 
 -- its first fault, and whether its sides agree
-abbrev pub fault_of : AbtmDualTopology → Fault
+abbrev pub fault_of : AbtmDualTopology → Result Unit Fault
 fault_of t =
     topology_fault t.rows.nrows t.rows.ncols t.rows.row_word_ptr.now t.rows.word_indices.now t.rows.masks.now t.rows.structural_nnz
     t.columns.nrows t.columns.ncols t.columns.row_word_ptr.now t.columns.word_indices.now t.columns.masks.now t.columns.structural_nnz
@@ -49,14 +50,18 @@ width t of = width_of of t.rows.nrows t.rows.ncols
 abbrev pub row : AbtmDualTopology → RowOf → ℕ → ℕ → Bool
 row t of k = row_set of (holds t.rows) k
 
--- the side that an accepted row is one of
-pub record FoundRow (t : AbtmDualTopology) (of : RowOf) (k : ℕ) (s : Side) : Type 0 where
+-- the words of an accepted row
+pub record FoundRow (t : AbtmDualTopology) (of : RowOf) (k : ℕ) (r : RowWords) : Type 0 where
   pub passed : check_row t of k ≡ Ok tt
-  pub inside : k < s.nrows
-  pub wide : s.ncols ≡ width t of
-  pub columns : pairs s k ≡ row t of k
+  pub wide : r.ncols ≡ width t of
+  pub columns : held r ≡ row t of k
 
 -- ---- from_csr32, with the lengths of the eight lists
 
 abbrev pub check_build : Csr32Matrix → List ℕ → List ℕ → List ℕ → List ℕ → List ℕ → List ℕ → List ℕ → List ℕ → Check
 check_build m = build_check m.nrows m.ncols m.row_ptr.now m.col_idx.now m.values.now
+
+-- ---- the lent topology as it was accepted
+
+abbrev pub AcceptedFrom : AbtmDualTopology → Topology → Type 0
+AcceptedFrom t a = (AcceptedSide t.rows a.rows) × (AcceptedSide t.columns a.columns)

@@ -1,5 +1,5 @@
-// The work on a topology, for callers that have checked: no part of the API.
-ghost use Rattle.std.specs.Prelude.{◌≡◌, cond, ◌+◌, ◌≤◌, ◌<◌, length, replicate};
+// The work on a topology, for callers that have checked: no part of the API. Lists that are written are handed in one by one, as in `from_csr32`.
+ghost use Rattle.std.specs.Prelude.{◌≡◌, Ok, Err, IfOk, IfErr, cond, ◌+◌, ◌≤◌, ◌<◌, length, replicate};
 ghost use Rattle.base.specs.Checks.{side_limit, entry_limit};
 ghost use Rattle.base.specs.Lists.{over, over_with_zeros};
 ghost use Rattle.csr32.specs.Views.{entries};
@@ -24,85 +24,86 @@ pub struct Topology<'a> {
     ghost accepted: { IsTopology rows.nrows rows.ncols rows.row_word_ptr.now rows.word_indices.now rows.masks.now columns.row_word_ptr.now columns.word_indices.now columns.masks.now },
 }
 
-impl AbtmDualTopology<'_> {
-    ghost use Rattle.dual_topology.specs.Views.{agree, fault_of, SoundTopology};
+impl<'a> AbtmDualTopology<'a> {
+    ghost use Rattle.dual_topology.specs.Views.{agree, check_topology, fault_of, SoundTopology, AcceptedFrom};
+
+    pub fn accept(self) -> Result<Topology<'a>, Refusal>
+        ensures refused { IfErr result (λ e. check_topology self.entry ≡ Err e) }
+        ensures accepted { IfOk result (λ t. (check_topology self.entry ≡ Ok tt) × SoundTopology self.entry × AcceptedFrom self.entry t) }
+    {
+        self.validate()?;
+        Ok(Topology {
+            rows: self.rows.as_side(),
+            columns: self.columns.as_side(),
+        })
+    }
 
     // Whether two sides without fault are each other's transpose.
-    fn agreement(self) -> Fault
+    fn agreement(self) -> Result<(), Fault>
         requires { SoundSide self.rows × SoundSide self.columns }
-        ensures { result ≡ cond (agree self.entry) Fault.Sound Fault.Disagree }
+        ensures { result ≡ cond (agree self.entry) (Ok tt) (Err Fault.Disagree) }
     {
         let rows = self.rows;
         let columns = self.columns;
         if columns.nrows != rows.ncols {
-            return Fault::Disagree;
+            return Err(Fault::Disagree);
         }
         if columns.ncols != rows.nrows {
-            return Fault::Disagree;
+            return Err(Fault::Disagree);
         }
         if columns.structural_nnz != rows.structural_nnz {
-            return Fault::Disagree;
+            return Err(Fault::Disagree);
         }
         let sides = Sides {
-            rows: Side {
-                nrows: rows.nrows,
-                ncols: rows.ncols,
-                row_word_ptr: rows.row_word_ptr,
-                word_indices: rows.word_indices,
-                masks: rows.masks,
-            },
-            columns: Side {
-                nrows: columns.nrows,
-                ncols: columns.ncols,
-                row_word_ptr: columns.row_word_ptr,
-                word_indices: columns.word_indices,
-                masks: columns.masks,
-            },
+            rows: rows.as_side(),
+            columns: columns.as_side(),
         };
         if !sides.is_transpose() {
-            return Fault::Disagree;
+            return Err(Fault::Disagree);
         }
-        Fault::Sound
+        Ok(())
     }
 
     // The first fault of two sides within the limits: rows, columns, agreement.
-    pub(crate) fn fault(self) -> Fault
+    pub(crate) fn fault(self) -> Result<(), Fault>
         requires { WithinLimits self.rows × WithinLimits self.columns }
         ensures value { result ≡ fault_of self.entry }
-        ensures sound { result ≡ Fault.Sound → SoundTopology self.entry }
+        ensures sound { IfOk result (λ t. SoundTopology self.entry) }
     {
-        match self.rows.fault() {
-            Fault::Sound => match self.columns.fault() {
-                Fault::Sound => self.agreement(),
-                other => other,
-            },
-            other => other,
-        }
+        self.rows.fault()?;
+        self.columns.fault()?;
+        self.agreement()
     }
 }
 
-// The lengths of the eight lists that a building takes.
+// Refusal 25 of the eight lists that a building takes. It takes them for their lengths: as numbers of one type these would be mixed up sooner.
 pub fn check_room(
     nrows: usize,
     ncols: usize,
     entries: usize,
-    row_pointers: usize,
-    row_words: usize,
-    row_masks: usize,
-    column_pointers: usize,
-    column_words: usize,
-    column_masks: usize,
-    starts: usize,
-    order: usize,
+    row_word_ptr: &[u32],
+    row_word_indices: &[u32],
+    row_masks: &[u64],
+    column_word_ptr: &[u32],
+    column_word_indices: &[u32],
+    column_masks: &[u64],
+    starts: &[u32],
+    order: &[u32],
 ) -> Result<(), Refusal>
-    ensures { result ≡ build_room nrows ncols entries row_pointers row_words row_masks column_pointers column_words column_masks starts order }
+    ensures { result ≡ build_room nrows ncols entries (length row_word_ptr.now) (length row_word_indices.now) (length row_masks.now) (length column_word_ptr.now) (length column_word_indices.now) (length column_masks.now) (length starts.now) (length order.now) }
 {
-    side::inner::check_room(nrows, entries, row_pointers, row_words, row_masks)?;
-    side::inner::check_room(ncols, entries, column_pointers, column_words, column_masks)?;
-    if ncols >= starts {
+    side::inner::check_room(nrows, entries, row_word_ptr, row_word_indices, row_masks)?;
+    side::inner::check_room(
+        ncols,
+        entries,
+        column_word_ptr,
+        column_word_indices,
+        column_masks,
+    )?;
+    if ncols >= starts.len() {
         return Err(Refusal::ListTooShort);
     }
-    if entries > order {
+    if entries > order.len() {
         return Err(Refusal::ListTooShort);
     }
     Ok(())

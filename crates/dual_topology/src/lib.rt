@@ -10,9 +10,8 @@ ghost use Rattle.dual_topology.specs.Views.{check_build};
 
 use base::Refusal;
 use csr32::Csr32Matrix;
-use csr32::inner::Matrix;
 use side::AbtmTopology;
-use side::inner::Side;
+use side::inner::RowWords;
 use word::AbtmTopologyWord;
 
 pub mod inner;
@@ -42,7 +41,7 @@ pub struct AbtmDualTopologyStats {
     pub column_metadata_bytes: u32,
 }
 
-// The side that a row belongs to. A caller names it as data, and it chooses a side in one place (`side_of`): a closure would be no plainer.
+// The side that a row belongs to. A caller names it as data, and it chooses a side in one place (`find_row`): a closure would be no plainer.
 #[derive(Clone, Copy)]
 pub enum RowOf {
     Rows,
@@ -61,36 +60,6 @@ impl AbtmDualTopologyStats {
     {
         topology::inner::ratio(self.total_metadata_bytes(), self.structural_nnz as u64)
     }
-}
-
-// The matrix, then the lengths of the eight lists.
-fn check_build(
-    matrix: Csr32Matrix,
-    row_word_ptr: &[u32],
-    row_word_indices: &[u32],
-    row_masks: &[u64],
-    column_word_ptr: &[u32],
-    column_word_indices: &[u32],
-    column_masks: &[u64],
-    starts: &[u32],
-    order: &[u32],
-) -> Result<(), Refusal>
-    ensures { result ≡ check_build matrix.entry row_word_ptr.now row_word_indices.now row_masks.now column_word_ptr.now column_word_indices.now column_masks.now starts.now order.now }
-{
-    matrix.validate()?;
-    inner::check_room(
-        matrix.nrows,
-        matrix.ncols,
-        matrix.col_idx.len(),
-        row_word_ptr.len(),
-        row_word_indices.len(),
-        row_masks.len(),
-        column_word_ptr.len(),
-        column_word_indices.len(),
-        column_masks.len(),
-        starts.len(),
-        order.len(),
-    )
 }
 
 // `starts` and `order` are scratch: a number for each column and one, and one for each entry. Lists that are written are handed in one by one:
@@ -116,8 +85,11 @@ pub fn from_csr32(
     ensures scratch_starts { starts.new ≡ scratch (check_build matrix.entry row_word_ptr.old row_word_indices.old row_masks.old column_word_ptr.old column_word_indices.old column_masks.old starts.old order.old) (matrix.entry.ncols + 1) starts.old }
     ensures scratch_order { order.new ≡ scratch (check_build matrix.entry row_word_ptr.old row_word_indices.old row_masks.old column_word_ptr.old column_word_indices.old column_masks.old starts.old order.old) (length matrix.entry.col_idx.now) order.old }
 {
-    check_build(
-        matrix,
+    let accepted = matrix.accept()?;
+    inner::check_room(
+        matrix.nrows,
+        matrix.ncols,
+        matrix.col_idx.len(),
         row_word_ptr,
         row_word_indices,
         row_masks,
@@ -128,12 +100,7 @@ pub fn from_csr32(
         order,
     )?;
     Ok(inner::build(
-        Matrix {
-            nrows: matrix.nrows,
-            ncols: matrix.ncols,
-            row_ptr: matrix.row_ptr,
-            col_idx: matrix.col_idx,
-        },
+        accepted,
         row_word_ptr,
         row_word_indices,
         row_masks,
@@ -154,91 +121,79 @@ impl<'a> AbtmDualTopology<'a> {
     {
         self.rows.check_limits()?;
         self.columns.check_limits()?;
-        self.fault().check()
+        self.fault()?;
+        Ok(())
     }
 
     pub fn stats(self) -> Result<AbtmDualTopologyStats, Refusal>
         ensures { result ≡ stats_answer (check_topology self.entry) (stats_of self.entry.rows.nrows self.entry.rows.ncols self.entry.rows.row_word_ptr.now self.entry.rows.word_indices.now self.entry.rows.masks.now self.entry.rows.structural_nnz self.entry.columns.row_word_ptr.now self.entry.columns.word_indices.now self.entry.columns.masks.now) }
     {
         self.validate()?;
-        let rows = self.rows;
-        let columns = self.columns;
-        Ok(AbtmDualTopologyStats {
-            nrows: rows.nrows as u32,
-            ncols: rows.ncols as u32,
-            structural_nnz: rows.structural_nnz as u32,
-            row_metadata_bytes: (4 * rows.row_word_ptr.len()
-                + 4 * rows.word_indices.len()
-                + 8 * rows.masks.len()) as u32,
-            column_metadata_bytes: (4 * columns.row_word_ptr.len()
-                + 4 * columns.word_indices.len()
-                + 8 * columns.masks.len()) as u32,
-        })
+        let counts = TopologyCounts {
+            row_words: self.rows.masks.len() as u64,
+            column_words: self.columns.masks.len() as u64,
+            pairs: self.rows.structural_nnz as u64,
+        };
+        Ok(inner::stats(self.rows.nrows, self.rows.ncols, counts))
     }
 
-    // The topology, then the row's number: the side that the row is one of.
-    fn side_of(self, of: RowOf, number: u64) -> Result<Side<'a>, Refusal>
+    // The topology, then the row's number: the row's words.
+    fn find_row(self, of: RowOf, number: u64) -> Result<RowWords<'a>, Refusal>
         ensures refused { IfErr result (λ e. check_row self.entry of number ≡ Err e) }
-        ensures found { IfOk result (λ s. FoundRow self.entry of number s) }
+        ensures found { IfOk result (λ r. FoundRow self.entry of number r) }
     {
-        self.validate()?;
+        let topology = self.accept()?;
         let side = match of {
-            RowOf::Rows => self.rows,
-            RowOf::Columns => self.columns,
+            RowOf::Rows => topology.rows,
+            RowOf::Columns => topology.columns,
         };
         if number >= side.nrows as u64 {
             return Err(Refusal::OutOfRange);
         }
-        Ok(Side {
-            nrows: side.nrows,
-            ncols: side.ncols,
-            row_word_ptr: side.row_word_ptr,
-            word_indices: side.word_indices,
-            masks: side.masks,
-        })
+        Ok(side.row(number as usize))
     }
 
     // How many stored words the row has.
     pub fn row_words(self, of: RowOf, number: u64) -> Result<u64, Refusal>
         ensures { result ≡ row_words_answer (check_row self.entry of number) (width self.entry of) (row self.entry of number) }
     {
-        let side = self.side_of(of, number)?;
-        Ok(side.row_words(number as usize))
+        let row = self.find_row(of, number)?;
+        Ok(row.count())
     }
 
     // How many columns the row has.
     pub fn row_popcount(self, of: RowOf, number: u64) -> Result<u64, Refusal>
         ensures { result ≡ row_popcount_answer (check_row self.entry of number) (width self.entry of) (row self.entry of number) }
     {
-        let side = self.side_of(of, number)?;
-        Ok(side.row_popcount(number as usize))
+        let row = self.find_row(of, number)?;
+        Ok(row.popcount())
     }
 
     // Whether the row has the column; past the end the answer is no.
     pub fn row_contains(self, of: RowOf, number: u64, col: u64) -> Result<bool, Refusal>
         ensures { result ≡ row_contains_answer (check_row self.entry of number) (width self.entry of) (row self.entry of number) col }
     {
-        let side = self.side_of(of, number)?;
-        Ok(side.row_contains(number as usize, col))
+        let row = self.find_row(of, number)?;
+        Ok(row.contains(col))
     }
 
     // How many columns of the row lie below `col`, which may be the end.
     pub fn row_rank(self, of: RowOf, number: u64, col: u64) -> Result<u64, Refusal>
         ensures { result ≡ row_rank_answer (check_row self.entry of number) (width self.entry of) (row self.entry of number) col }
     {
-        let side = self.side_of(of, number)?;
-        if col > side.ncols as u64 {
+        let row = self.find_row(of, number)?;
+        if col > row.ncols as u64 {
             return Err(Refusal::OutOfRange);
         }
-        Ok(side.row_rank(number as usize, col as usize))
+        Ok(row.rank(col as usize))
     }
 
     // The row's column with that ordinal, from 0, or none.
     pub fn row_select(self, of: RowOf, number: u64, ordinal: u64) -> Result<Option<usize>, Refusal>
         ensures { result ≡ row_select_answer (check_row self.entry of number) (width self.entry of) (row self.entry of number) ordinal }
     {
-        let side = self.side_of(of, number)?;
-        Ok(side.row_select(number as usize, ordinal))
+        let row = self.find_row(of, number)?;
+        Ok(row.select(ordinal))
     }
 
     // The row's stored word k, from 0, or none: what the Rust's `words()` yields.
@@ -250,7 +205,7 @@ impl<'a> AbtmDualTopology<'a> {
     ) -> Result<Option<AbtmTopologyWord>, Refusal>
         ensures { result ≡ row_word_answer (check_row self.entry of number) (width self.entry of) (row self.entry of number) k }
     {
-        let side = self.side_of(of, number)?;
-        Ok(side.row_word(number as usize, k))
+        let row = self.find_row(of, number)?;
+        Ok(row.word(k))
     }
 }

@@ -1,11 +1,11 @@
 -- Owners of blocks: what each check of a block says. Assumes nothing.
-use Rattle.std.proofs.Common.{◌≡◌, refl, sym, ap, ap₂, ◌∙◌, Bool, true, false, List, ℕ, ◌+◌, ◌-◌, ◌≤◌, ◌<◌, arith, lt-ltb, le-ltb, leb-true, eqb, ltb, length, get_or, take, drop, length-drop, length-take-le, get_or-take, get_or-drop}
+use Rattle.std.proofs.Common.{◌≡◌, refl, sym, ap, ap₂, ◌∙◌, subst, ◌⊎◌, inl, inr, T, Bool, true, false, List, ℕ, ◌+◌, ◌-◌, ◌≤◌, ◌<◌, arith, lt-ltb, le-ltb, leb-true, eqb, ltb, length, get_or, take, drop, length-drop, length-take-le, get_or-take, get_or-drop}
 use Rattle.std.specs.Prelude.{Ok, Err}
 use Rattle.base.specs.declared.Refusal.TheVariants.{OwnerOutOfRange, OwnersDiffer}
 use Rattle.base.specs.Checks.{must, ◌then◌}
 use Rattle.base.specs.Lists.{every}
 use Rattle.base.specs.Sets.{every_below}
-use Rattle.base.proofs.Bools.{bool-ext, T_of, T_true}
+use Rattle.base.proofs.Bools.{bool-ext, T_of, T_true, lt-or-le}
 use Rattle.base.proofs.Checks.{pass, stop, last-pass, last-stop, passed, length-passed, both-passed}
 use Rattle.base.proofs.Lists.{every-at, every-all}
 use Rattle.base.proofs.Sets.{every-i, every-e}
@@ -31,6 +31,21 @@ every-part f s from to h =
 
     at : (j : ℕ) → j < to - from → get_or part j 0 ≡ get_or s (from + j) 0
     at j l = get_or-take (to - from) (drop from s) j 0 l ∙ get_or-drop from s j 0
+
+-- where the first of them is known, the others decide
+pub first-held : (f : ℕ → Bool) (s : List ℕ) (from to : ℕ) → from < to → f (get_or s from 0) ≡ true
+    → every_below (to - (from + 1)) (λ j. f (get_or s (from + 1 + j) 0)) ≡ every_below (to - from) (λ j. f (get_or s (from + j) 0))
+first-held f s from to h first =
+    bool-ext (every_below (to - (from + 1)) (λ j. p (from + 1 + j))) (every_below (to - from) (λ j. p (from + j)))
+    (λ t. every-i (to - from) (λ j. p (from + j)) (λ j l. one t j l (lt-or-le j 1)))
+    (λ t. every-i (to - (from + 1)) (λ j. p (from + 1 + j)) (λ j l. let e : from + (j + 1) ≡ from + 1 + j = omega arith in subst (λ (x : ℕ). T (p x)) e (every-e (to - from) (λ j. p (from + j)) t (j + 1) (omega arith))))
+  where
+    p : ℕ → Bool
+    p i = f (get_or s i 0)
+
+    one : T (every_below (to - (from + 1)) (λ j. p (from + 1 + j))) → (j : ℕ) → j < to - from → (j < 1) ⊎ (1 ≤ j) → T (p (from + j))
+    one t j l (inl u) = let e : from ≡ from + j = omega arith in subst (λ (x : ℕ). T (p x)) e (T_of _ first)
+    one t j l (inr u) = let e : from + 1 + (j - 1) ≡ from + j = omega arith in subst (λ (x : ℕ). T (p x)) e (every-e (to - (from + 1)) (λ j. p (from + 1 + j)) t (j - 1) (omega arith))
 
 module _ (components owners : List ℕ) (b start end : ℕ) (k : Block components b start end) (ranks : ℕ) where
   check-is : owner_check components owners ranks b

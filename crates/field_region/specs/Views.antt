@@ -1,13 +1,11 @@
 -- Layouts, topologies and masks as they are lent, and a graph under a layout as it was accepted.
-use Rattle.std.specs.Prelude.{◌≡◌, List, ℕ, ◌≤◌, length}
+use Rattle.std.specs.Prelude.{List, ℕ}
 use Rattle.base.specs.Checks.{Check}
 use Rattle.mask.specs.declared.DofMask.{DofMask}
-use Rattle.mask.specs.Mask.{words_needed, IsMask}
 use Rattle.dof_layout.specs.declared.FieldAwareDofLayout.{FieldAwareDofLayout}
-use Rattle.dof_layout.specs.Views.{check_square, total, SoundLayout}
+use Rattle.dof_layout.specs.Views.{check_square, total}
 use Rattle.side.specs.Views.{holds, pairs}
 use Rattle.dual_topology.specs.declared.AbtmDualTopology.{AbtmDualTopology}
-use Rattle.dual_topology.specs.Check.{IsTopology}
 use Rattle.dual_topology.specs.Views.{check_topology}
 use Rattle.graph.specs.Network.{Network, field_network}
 use Rattle.field_region.specs.declared.inner.FieldGraph.{FieldGraph}
@@ -33,20 +31,3 @@ blocked t l = field_network l.blocks.components.now (holds t.rows)
 
 abbrev pub fields : FieldGraph → Network
 fields g = field_network g.layout.components.now (pairs g.graph.topology.rows)
-
--- what is known where the check of a closing accepts
-pub record Closable (l : FieldAwareDofLayout) (m : DofMask) (out : List ℕ) : Type 0 where
-  pub layout : SoundLayout l
-  pub size : m.len ≡ total l
-  pub mask : IsMask m.len m.words.now
-  pub room : words_needed m.len ≤ length out
-
--- what is known where the check of a growth accepts
-pub record FieldGrowable (t : AbtmDualTopology) (l : FieldAwareDofLayout) (m : DofMask) (region frontier scratch : List ℕ) : Type 0 where
-  pub layout : SoundLayout l
-  pub size : t.rows.nrows ≡ total l
-  pub topology : IsTopology t.rows.nrows t.rows.nrows t.rows.row_word_ptr.now t.rows.word_indices.now t.rows.masks.now t.columns.row_word_ptr.now t.columns.word_indices.now t.columns.masks.now
-  pub mask : IsMask t.rows.nrows m.words.now
-  pub region_room : words_needed t.rows.nrows ≤ length region
-  pub frontier_room : words_needed t.rows.nrows ≤ length frontier
-  pub scratch_room : words_needed t.rows.nrows ≤ length scratch

@@ -1,5 +1,6 @@
-// The work on field blocks, for callers that have checked: no part of the API.
-ghost use Rattle.std.specs.Prelude.{◌≡◌, false, ◌+◌, ◌-◌, ◌≤◌, eqb, length, get_or, replicate};
+// The work on field blocks, for callers that have checked: no part of the API. Of lists that are written each has an equation, and in a struct behind
+// `&mut` each contract would say besides that the references stay.
+ghost use Rattle.std.specs.Prelude.{◌≡◌, false, ◌+◌, ◌-◌, ◌<◌, ◌≤◌, eqb, length, get_or, replicate};
 ghost use Rattle.base.specs.Checks.{checks_below, side_limit};
 ghost use Rattle.base.specs.Lists.{over};
 ghost use Rattle.base.specs.Sets.{every_below, count_below};
@@ -13,8 +14,8 @@ ghost use Rattle.field_region.specs.Owners.{owner_check, owned_check, owners_of}
 use crate::{BlocksGrown, FieldAwareRegionStats};
 use base::Refusal;
 use dof_layout::inner::Layout;
-use growth::Grown;
-use growth::inner::Graph;
+use growth::Visited;
+use growth::inner::{Graph, Hop};
 use mask::inner::Mask;
 use word::AbtmTopologyWord;
 
@@ -28,7 +29,8 @@ pub struct FieldGraph<'a> {
 
 // The blocks of the mask's nodes are taken whole, in place. The scan of a block stops at its first selected bit; after one that finds none, the
 // blocks that end at or before the next selected node are passed. It takes the layout's two lists: given the struct, a field growth of many hops took
-// three times its time.
+// three times its time. Document 01 wants nested loops that are left by a label, and so `continue` names it. The passing is one jump to the next
+// member, which no list of members gives while the mask is written.
 fn close_in_place(components: &[u32], offsets: &[u64], words: &mut [u64])
     requires { (offsets.now ≡ offsets_of components.now) × (total_of components.now ≤ side_limit) × IsMask (total_of components.now) words.old }
     ensures { words.new ≡ closed_words components.now words.old }
@@ -58,7 +60,7 @@ fn close_in_place(components: &[u32], offsets: &[u64], words: &mut [u64])
     }
 }
 
-// The same on another list.
+// The mask's blocks taken whole, on another list.
 pub fn close(layout: Layout, mask: Mask, out: &mut [u64])
     requires { (mask.len ≡ total_of layout.components.now) × (length out.old ≡ words_needed mask.len) }
     ensures { out.new ≡ closed_words layout.entry.components.now mask.entry.words.now }
@@ -67,15 +69,15 @@ pub fn close(layout: Layout, mask: Mask, out: &mut [u64])
     close_in_place(layout.components, layout.offsets, out);
 }
 
-// Whether all nodes from `start` up to `end` have the owner.
+// Whether all nodes from `start` up to `end` have the owner, as the first does.
 fn owned(dof_owners: &[u32], start: usize, end: usize, owner: u32) -> bool
-    requires { (start ≤ end) × (end ≤ length dof_owners.now) }
+    requires { (start < end) × (end ≤ length dof_owners.now) × (get_or dof_owners.now start 0 ≡ owner) }
     ensures { result ≡ every_below (end - start) (λ j. eqb (get_or dof_owners.now (start + j) 0) owner) }
 {
-    dof_owners[start..end].iter().all(|x| *x == owner)
+    dof_owners[start + 1..end].iter().all(|x| *x == owner)
 }
 
-// 20 and 21, block by block.
+// 20 and 21, block by block. By index: of two neighbours that `windows(2)` gives, it would be left to show that they are two.
 pub fn check_blocks(layout: Layout, dof_owners: &[u32], ranks: u32) -> Result<(), Refusal>
     requires { length dof_owners.now ≡ total_of layout.components.now }
     ensures { result ≡ checks_below (length layout.entry.components.now) (owner_check layout.entry.components.now dof_owners.now ranks) }
@@ -128,7 +130,8 @@ pub fn write_owners(layout: Layout, dof_owners: &[u32], out: &mut [u32])
     }
 }
 
-// How many blocks the region holds, which holds only whole blocks: those whose first node it holds.
+// How many blocks the region holds, which holds only whole blocks: those whose first node it holds. A loop:
+// the closure of a filter holds the offsets alone, and its contract cannot say by them that each is a node.
 fn count_blocks(layout: Layout, region: Mask) -> u64
     requires { region.len ≡ total_of layout.components.now }
     ensures { result ≡ count_below (length layout.entry.components.now) (λ b. in_mask region.entry.words.now (start_of layout.entry.components.now b)) }
@@ -140,6 +143,18 @@ fn count_blocks(layout: Layout, region: Mask) -> u64
         }
     }
     count
+}
+
+impl<'a> Hop for FieldGraph<'a> {
+    ghost use Rattle.field_region.specs.Views.{fields};
+
+    ghost network = { fields };
+
+    fn reach(&self, frontier: Mask, reached: &mut [u64]) -> Visited {
+        let found = self.graph.expand(frontier, reached);
+        close_in_place(self.layout.components, self.layout.offsets, reached);
+        found
+    }
 }
 
 impl FieldGraph<'_> {
@@ -160,38 +175,15 @@ impl FieldGraph<'_> {
         ensures frontier_after { frontier.new ≡ frontier_words (fields self.entry) seeds.entry.words.now hops }
         ensures scratch_after { scratch.new ≡ mask_words (total_of self.entry.layout.components.now) (λ i. false) }
     {
-        let n = self.graph.n;
         close(self.layout, seeds, region);
-        let closed = Mask {
-            len: n,
+        let start = Mask {
+            len: self.graph.n,
             words: region,
         };
-        closed.copy(frontier);
-        mask::inner::clear(n, scratch);
-        let closed_seeds = closed.count();
-        let mut visits = growth::inner::none();
-        let mut some = closed.any_node();
-        for k in 0..hops {
-            if !some {
-                return BlocksGrown {
-                    closed_seeds,
-                    grown: Grown { hops: k, visits },
-                };
-            }
-            let found = self.graph.expand(
-                Mask {
-                    len: n,
-                    words: frontier,
-                },
-                scratch,
-            );
-            visits = growth::inner::plus(visits, found);
-            close_in_place(self.layout.components, self.layout.offsets, scratch);
-            some = growth::inner::settle(n, region, frontier, scratch);
-        }
+        let closed_seeds = start.count();
         BlocksGrown {
             closed_seeds,
-            grown: Grown { hops, visits },
+            grown: growth::inner::grow_by_hops(&self, seeds, hops, region, frontier, scratch),
         }
     }
 

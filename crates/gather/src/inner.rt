@@ -18,7 +18,8 @@ pub struct Plan<'a, 'v> {
 }
 
 impl Plan<'_, '_> {
-    // Whether every pair has one source, from pointers that never fall. All steps are looked at, and none waits for the one before it.
+    // Whether every pair has one source, from pointers that never fall. All steps are looked at, and none waits for the one before it. `windows(2)` is no
+    // plainer, because the two pointers of a window are read by number too.
     fn one_each(self) -> bool
         ensures { result ≡ is_one_each self.entry.ptr.now }
     {
@@ -29,7 +30,8 @@ impl Plan<'_, '_> {
         other == 0
     }
 
-    // The sum from 0.0 of one pair's entries.
+    // The sum from 0.0 of one pair's entries: a loop, since the library's sum of floats begins with -0.0. A `fold` is no plainer, because its step is the
+    // loop's and its start would stand beside it.
     fn sum_pair(self, from: usize, to: usize) -> f64
         requires { (from ≤ to) × (to ≤ length self.sources.now) }
         ensures { result ≡ sum_of self.entry.values.now (slice from to self.entry.sources.now) }
@@ -41,6 +43,8 @@ impl Plan<'_, '_> {
         sum
     }
 
+    // By number, here and below: what a `zip` with `out.iter_mut()` leaves in `out` has no name that an answer may cite. Pair i is what lies between
+    // pointers i and i + 1, and goes to place i.
     fn sum_pairs(self, out: &mut [f64])
         requires { length self.ptr.now - 1 ≤ length out.old }
         ensures { out.new ≡ over (summed self.entry.ptr.now self.entry.sources.now self.entry.values.now) out.old }
@@ -50,6 +54,7 @@ impl Plan<'_, '_> {
         }
     }
 
+    // Where every pair has one source: source i goes to place i.
     fn copy_sources(self, out: &mut [f64])
         requires { length self.sources.now ≤ length out.old }
         ensures { out.new ≡ over (values_of self.entry.values.now self.entry.sources.now) out.old }

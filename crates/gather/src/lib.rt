@@ -19,7 +19,8 @@ pub struct GatherPlan<'a> {
 }
 
 impl GatherPlan<'_> {
-    // The limits, the plan, the values, the length of the list.
+    // The limits, the plan, the values, the length of the list. `first` and `last` are no plainer, because each would answer an Option after the test that
+    // there are pointers.
     #[tactic(auto, using(base::proofs::Checks::checks, crate::proofs::Plans::empties), unfolding(crate::specs::Gather::gather_check))]
     fn check_gather(self, values: &[f64], out: &[f64]) -> Result<(), Refusal>
         ensures { result ≡ gather_check self.entry.source_ptr.now self.entry.source_indices.now self.entry.source_value_len values.now out.now }
@@ -30,7 +31,7 @@ impl GatherPlan<'_> {
         if values.len() > base::ENTRY_LIMIT {
             return Err(Refusal::OverLimit);
         }
-        if self.source_ptr.len() == 0 {
+        if self.source_ptr.is_empty() {
             return Err(Refusal::BadPointers);
         }
         if self.source_ptr[0] != 0 {
@@ -57,7 +58,8 @@ impl GatherPlan<'_> {
         Ok(())
     }
 
-    // One value for each pair of the plan: copied where every pair has one source, otherwise summed from 0.0 in stored order.
+    // One value for each pair of the plan: copied where every pair has one source, otherwise summed from 0.0 in stored order. An `accept` of its own is no
+    // plainer, because the accepted plan holds the values too, and what is checked takes the list that is written besides.
     pub fn gather_values(self, values: &[f64], out: &mut [f64]) -> Result<u64, Refusal>
         ensures value { result ≡ gather_answer (gather_check self.entry.source_ptr.now self.entry.source_indices.now self.entry.source_value_len values.now out.old) self.entry.source_ptr.now }
         ensures out_after { out.new ≡ gather_left (gather_check self.entry.source_ptr.now self.entry.source_indices.now self.entry.source_value_len values.now out.old) self.entry.source_ptr.now self.entry.source_indices.now values.now out.old }

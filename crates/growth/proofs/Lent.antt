@@ -1,5 +1,5 @@
--- The three lists of a growth: what acceptance says of their lengths, and what stands in them afterwards. Assumes nothing.
-use mathlib.Core.Path.{◌≡◌, sym, ap, ◌∙◌}
+-- What a growth is lent: the pairs of an accepted topology; of the three lists what acceptance says of their lengths, and what stands in them afterwards. Assumes nothing.
+use mathlib.Core.Path.{◌≡◌, sym, ap, ap₂, ◌∙◌}
 use Rattle.std.specs.Prelude.{Ok}
 use mathlib.Core.Bool.{false}
 use mathlib.Core.List.{List}
@@ -12,9 +12,20 @@ use Rattle.base.proofs.Checks.{both-passed, passed}
 use Rattle.base.proofs.Sets.{count-cong}
 use Rattle.mask.specs.Mask.{in_mask, words_needed, mask_words, IsMask}
 use Rattle.mask.proofs.Masks.{mask_is, mask-length, mask-none}
+use Rattle.side.specs.Side.{side_holds}
+use Rattle.side.specs.Views.{holds, pairs}
+use Rattle.dual_topology.specs.declared.AbtmDualTopology.{AbtmDualTopology}
+use Rattle.dual_topology.specs.declared.inner.Topology.{Topology}
+use Rattle.dual_topology.specs.Views.{AcceptedFrom}
 use Rattle.graph.specs.Network.{Network, in_region, region_words, frontier_words}
 use Rattle.graph.proofs.Networks.{region-at}
 use Rattle.growth.specs.Lent.{masks_room}
+
+-- an accepted topology pairs what the lent one does
+pub pairs-same : (t : AbtmDualTopology) (a : Topology) → AcceptedFrom t a → pairs a.rows ≡ holds t.rows
+pairs-same t a e =
+    ap₂ (λ p i. side_holds p.now i.now a.rows.masks.now) e.0.2 e.0.3
+    ∙ ap (λ m. side_holds t.rows.row_word_ptr.now t.rows.word_indices.now m.now) e.0.4
 
 pub masks-fit : (n region frontier scratch : ℕ) → masks_room n region frontier scratch ≡ Ok tt
     → (words_needed n ≤ region) × (words_needed n ≤ frontier) × (words_needed n ≤ scratch)

@@ -4,6 +4,7 @@ use Rattle.base.specs.Checks.{side_limit, entry_limit}
 use Rattle.base.specs.Sets.{count_below, sum_over}
 use Rattle.mask.specs.Mask.{in_mask}
 use Rattle.side.specs.Side.{flip, words_of_row}
+use Rattle.graph.proofs.Networks.{Whole}
 use Rattle.graph.specs.Network.{Network, visited, hops_made}
 use Rattle.growth.specs.declared.Taken.{Taken}
 use Rattle.growth.specs.declared.Visited.{Visited}
@@ -46,3 +47,9 @@ pub record Small (v : Visited) : Type 0 where
   pub few_row_words : v.row_words ≤ entry_limit
   pub few_column_words : v.column_words ≤ entry_limit
   pub few_bits : v.candidate_bits ≤ 2 * entry_limit
+
+-- what a growth asks of its network: each node is in a block, the nodes are within the limit, and so is what is counted of any of them
+pub record Sound (g : Network) : Type 0 where
+  pub whole : Whole g
+  pub short : g.nodes ≤ side_limit
+  pub small : (p : ℕ → Bool) → Small (visits_of g.nodes g.stored p)

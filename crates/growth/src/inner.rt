@@ -1,17 +1,18 @@
 // The steps of a growth, for callers that have checked: no part of the API.
-ghost use Rattle.std.specs.Prelude.{◌≡◌, IfOk, false, ◌||◌, ◌+◌, ◌<◌, ◌≤◌, length};
+ghost use Rattle.std.specs.Prelude.{◌≡◌, Err, IfOk, IfErr, false, ◌||◌, ◌+◌, ◌<◌, ◌≤◌, length};
 ghost use Rattle.base.specs.Checks.{side_limit};
 ghost use Rattle.base.specs.Sets.{any_below};
 ghost use Rattle.mask.specs.Mask.{in_mask, words_needed, mask_words, IsMask};
 ghost use Rattle.mask.specs.Answers.{combined, union, and_not_of};
 ghost use Rattle.side.specs.Check.{IsSide};
 ghost use Rattle.dual_topology.specs.Check.{IsTopology};
-ghost use Rattle.graph.specs.Network.{plain_network, touched, region_words, frontier_words};
-ghost use Rattle.growth.specs.Visits.{nothing, together, Small};
+ghost use Rattle.graph.specs.Network.{Network, plain_network, closed, touched, region_words, frontier_words};
+ghost use Rattle.growth.specs.Visits.{visits_of, grown_by, Sound};
 ghost use Rattle.growth.specs.Lent.{masks_room};
 
 use crate::{Grown, Taken, Visited};
 use base::Refusal;
+use dual_topology::AbtmDualTopology;
 use dual_topology::inner::Topology;
 use mask::inner::Mask;
 use side::inner::Side;
@@ -36,7 +37,7 @@ pub fn check_room(n: usize, region: usize, frontier: usize, scratch: usize) -> R
     Ok(())
 }
 
-// A square topology that was accepted: its graph on n nodes.
+// A square topology that was accepted: its graph on n nodes. `n` is its rows' number and its columns', and stands for both in what follows.
 #[derive(Clone, Copy)]
 pub struct Graph<'a> {
     pub n: usize,
@@ -56,7 +57,7 @@ impl Rows<'_> {
     ghost use Rattle.side.specs.Views.{pairs};
     ghost use Rattle.growth.specs.Visits.{taken_of};
 
-    // Row i joins the mask, word by word.
+    // Row i joins the mask, word by word. Word k is in two lists: to zip them, each would first be cut to the row.
     fn take(self, i: usize, reached: &mut [u64]) -> Taken
         requires { IsMask self.n reached.old × (i < self.n) }
         ensures value { result ≡ taken_of self.entry.n (pairs self.entry.side i) }
@@ -77,8 +78,9 @@ impl Rows<'_> {
     }
 }
 
-// The three lists are written, and what they hold before is said of each: a struct of them would say no less.
-// What is new in `reached` becomes the frontier and joins the region; `reached` is spent. Whether there is anything new.
+// What is new in `reached` becomes the frontier and joins the region; `reached` is spent. Whether there is anything new. Here and below, of lists
+// that are written each has an equation, and in a struct behind `&mut` each contract would say besides that the references stay. By index: word w
+// of three lists, where zips would give a pair within a pair.
 pub fn settle(n: usize, region: &mut [u64], frontier: &mut [u64], reached: &mut [u64]) -> bool
     requires { IsMask n region.old × IsMask n frontier.old × IsMask n reached.old }
     ensures value { result ≡ any_below n (in_mask frontier.new) }
@@ -97,36 +99,92 @@ pub fn settle(n: usize, region: &mut [u64], frontier: &mut [u64], reached: &mut 
     some != 0
 }
 
-// Before the first visit.
-pub fn none() -> Visited
-    ensures { result ≡ nothing }
+// What grows hop by hop: its network, and how far one hop reaches.
+pub trait Hop {
+    ghost network: { Self → Network };
+
+    // The blocks that are linked to one of the frontier's, joined whole into `reached`, a mask of none.
+    fn reach(&self, frontier: Mask, reached: &mut [u64]) -> Visited
+        requires { (frontier.len ≡ (network self.now).nodes) × (reached.old ≡ mask_words (network self.now).nodes (λ i. false)) }
+        ensures value { result ≡ visits_of (network self.now).nodes (network self.now).stored (in_mask frontier.entry.words.now) }
+        ensures reached_after { reached.new ≡ mask_words (network self.now).nodes (closed (network self.now).nodes (network self.now).block (touched (network self.now).nodes (network self.now).stored (in_mask frontier.entry.words.now))) };
+}
+
+// The masks after `hops` hops, of which `region` holds the start: the seeds' blocks. A hop is made on a frontier that holds a node; the hop that
+// finds nothing is the last.
+pub fn grow_by_hops<H: Hop>(
+    graph: &H,
+    seeds: Mask,
+    hops: u64,
+    region: &mut [u64],
+    frontier: &mut [u64],
+    scratch: &mut [u64],
+) -> Grown
+    requires { Sound (H.network graph.now) × (seeds.len ≡ (H.network graph.now).nodes) × (region.old ≡ mask_words (H.network graph.now).nodes (closed (H.network graph.now).nodes (H.network graph.now).block (in_mask seeds.words.now))) × (length frontier.old ≡ words_needed seeds.len) × (length scratch.old ≡ words_needed seeds.len) }
+    ensures value { result ≡ grown_by (H.network graph.now) seeds.entry.words.now hops }
+    ensures region_after { region.new ≡ region_words (H.network graph.now) seeds.entry.words.now hops }
+    ensures frontier_after { frontier.new ≡ frontier_words (H.network graph.now) seeds.entry.words.now hops }
+    ensures scratch_after { scratch.new ≡ mask_words (H.network graph.now).nodes (λ i. false) }
 {
-    Visited {
-        nodes: 0,
-        row_words: 0,
-        column_words: 0,
-        candidate_bits: 0,
+    let n = seeds.len;
+    let start = Mask {
+        len: n,
+        words: region,
+    };
+    start.copy(frontier);
+    let mut some = start.any_node();
+    mask::inner::clear(n, scratch);
+    let mut visits = Visited::default();
+    for k in 0..hops {
+        if !some {
+            return Grown { hops: k, visits };
+        }
+        let found = graph.reach(
+            Mask {
+                len: n,
+                words: frontier,
+            },
+            scratch,
+        );
+        visits = visits + found;
+        some = settle(n, region, frontier, scratch);
+    }
+    Grown { hops, visits }
+}
+
+impl<'a> Hop for Graph<'a> {
+    ghost use Rattle.side.specs.Views.{pairs};
+
+    ghost network = { λ g. plain_network g.n (pairs g.topology.rows) };
+
+    fn reach(&self, frontier: Mask, reached: &mut [u64]) -> Visited {
+        self.expand(frontier, reached)
     }
 }
 
-// Two counts together.
-pub fn plus(a: Visited, b: Visited) -> Visited
-    requires { Small (together a b) }
-    ensures { result ≡ together a b }
-{
-    Visited {
-        nodes: a.nodes + b.nodes,
-        row_words: a.row_words + b.row_words,
-        column_words: a.column_words + b.column_words,
-        candidate_bits: a.candidate_bits + b.candidate_bits,
+impl<'a> Graph<'a> {
+    ghost use Rattle.dual_topology.specs.Views.{AcceptedFrom};
+    ghost use Rattle.growth.specs.Lent.{check_square};
+
+    // The graph of a topology that is lent: the topology, then 10.
+    pub fn of(topology: AbtmDualTopology<'a>) -> Result<Graph<'a>, Refusal>
+        ensures refused { IfErr result (λ e. check_square topology.entry ≡ Err e) }
+        ensures accepted { IfOk result (λ g. (check_square topology.entry ≡ Ok tt) × (g.n ≡ topology.entry.rows.nrows) × AcceptedFrom topology.entry g.topology) }
+    {
+        let topology = topology.accept()?;
+        let n = topology.rows.nrows;
+        if n != topology.rows.ncols {
+            return Err(Refusal::NotSquare);
+        }
+        Ok(Graph { n, topology })
     }
 }
 
 impl Graph<'_> {
     ghost use Rattle.side.specs.Views.{pairs};
-    ghost use Rattle.growth.specs.Visits.{visits_of, grown_by};
 
-    // The nodes that an entry, at either order, joins to the frontier: its members' rows and columns joined into `reached`, a mask of none.
+    // The nodes that an entry, at either order, joins to the frontier: its members' rows and columns joined into `reached`, a mask of none. Four sums:
+    // Visited's `+` would have each node make a struct of its four first.
     pub fn expand(self, frontier: Mask, reached: &mut [u64]) -> Visited
         requires { (frontier.len ≡ self.n) × (reached.old ≡ mask_words self.n (λ i. false)) }
         ensures value { result ≡ visits_of self.entry.n (pairs self.entry.topology.rows) (in_mask frontier.entry.words.now) }
@@ -144,15 +202,13 @@ impl Graph<'_> {
         let mut row_words: u64 = 0;
         let mut column_words: u64 = 0;
         let mut candidate_bits: u64 = 0;
-        let mut i = frontier.next_member(0);
-        while i < self.n {
+        for i in frontier.members() {
             let row = rows.take(i, reached);
             let column = columns.take(i, reached);
             nodes += 1;
             row_words += row.words;
             column_words += column.words;
             candidate_bits += row.bits + column.bits;
-            i = frontier.next_member(i + 1);
         }
         Visited {
             nodes,
@@ -162,7 +218,7 @@ impl Graph<'_> {
         }
     }
 
-    // The masks after `hops` hops from the seeds. A hop is made on a frontier that holds a node; the hop that finds nothing is the last.
+    // The masks after `hops` hops from the seeds.
     pub fn grow(
         self,
         seeds: Mask,
@@ -178,24 +234,6 @@ impl Graph<'_> {
         ensures scratch_after { scratch.new ≡ mask_words self.entry.n (λ i. false) }
     {
         seeds.copy(region);
-        seeds.copy(frontier);
-        mask::inner::clear(self.n, scratch);
-        let mut visits = none();
-        let mut some = seeds.any_node();
-        for k in 0..hops {
-            if !some {
-                return Grown { hops: k, visits };
-            }
-            let found = self.expand(
-                Mask {
-                    len: self.n,
-                    words: frontier,
-                },
-                scratch,
-            );
-            visits = plus(visits, found);
-            some = settle(self.n, region, frontier, scratch);
-        }
-        Grown { hops, visits }
+        grow_by_hops(&self, seeds, hops, region, frontier, scratch)
     }
 }

@@ -1,6 +1,6 @@
 -- The list of growths on lent lists, growth by growth: what holds after each, for plain growths and for field growths alike. Assumes nothing.
 use mathlib.Core.Path.{◌≡◌, refl, sym, ap, ap₂, ◌∙◌, subst}
-use Rattle.std.specs.Prelude.{Ok, Err}
+use Rattle.std.specs.Prelude.{Result, Ok, Err}
 use Rattle.base.specs.Checks.{Check}
 use Rattle.base.specs.declared.Refusal.TheVariants.{ListTooShort}
 use mathlib.Core.Bool.{Bool, true, false, cond}
@@ -12,7 +12,7 @@ use borrow.Author.Tests.{eq-eqb, ne_eqb, leb-true}
 use lib.Dec.{leb, eqb}
 use lib.ListN.{length, get_or, take, drop, replicate, length-append, length-replicate, take-append-drop}
 use lib.Seq.{length-take-le, drop-append-le, take_at, drop_at}
-use Rattle.base.specs.Checks.{after, leaves}
+use Rattle.base.specs.Checks.{answer, leaves}
 use Rattle.base.specs.Lists.{over}
 use Rattle.base.specs.Sets.{sum_below, one_if}
 use Rattle.base.specs.declared.Refusal.{Refusal}
@@ -35,9 +35,19 @@ use Rattle.growths.proofs.Grounds.{region-accepted}
 
 -- ---- what an answer says of the checks
 
-pub taken : (check : Check) (r : Bool) → r ≡ after check true (λ x. false) → r ≡ true → check ≡ Ok tt
-taken (Ok tt) r e t = refl
-taken (Err q) r e t = cc
+forget : {A : Type 0} → Result A Refusal → Check
+forget (Ok a) = Ok tt
+forget (Err r) = Err r
+
+pub taken : {A : Type 0} (check : Check) (a x : A) → answer check a ≡ Ok x → check ≡ Ok tt
+unfolding forget
+taken (Ok _) a x e = refl
+taken (Err q) a x e = ap forget e
+
+pub refused : {A : Type 0} (check : Check) (a : A) (r : Refusal) → answer check a ≡ Err r → check ≡ Err r
+unfolding forget
+refused (Ok _) a r e = ap forget e
+refused (Err q) a r e = ap forget e
 
 -- what a call left, accepted and refused
 pub left-new : {A : Type 0} (check : Check) (new old x : A) → check ≡ Ok tt → x ≡ leaves check new old → x ≡ new

@@ -1,6 +1,6 @@
 // Lists of growths given by arrays, for callers that have checked: no part of the API.
-ghost use Rattle.std.specs.Prelude.{◌≡◌, true, false, ℕ, ◌<◌, min, length};
-ghost use Rattle.base.specs.Checks.{after, leaves};
+ghost use Rattle.std.specs.Prelude.{◌≡◌, ℕ, ◌<◌, min, length};
+ghost use Rattle.base.specs.Checks.{leaves};
 ghost use Rattle.mask.specs.Mask.{words_needed, length_check};
 ghost use Rattle.dof_layout.specs.Views.{check_square};
 ghost use Rattle.side.specs.Views.{holds};
@@ -15,6 +15,7 @@ ghost use Rattle.growths.specs.Solid.{Solid};
 ghost use Rattle.growths.specs.Counts.{counted_by, ran_of, seeds_after, region_once_grown, frontier_once_grown, scratch_once_grown};
 
 use crate::Ran;
+use base::Refusal;
 use dof_layout::FieldAwareDofLayout;
 use dual_topology::AbtmDualTopology;
 use mask::DofMask;
@@ -35,7 +36,7 @@ fn counted(ran: Ran, hops: u64) -> Ran
 trait Grower {
     ghost shared: { Self → Ground };
 
-    // Whether the growth is accepted.
+    // One growth: the first refusal of its checks, if there is one.
     fn once(
         &self,
         seeds: &[u64],
@@ -43,15 +44,14 @@ trait Grower {
         region: &mut [u64],
         frontier: &mut [u64],
         scratch: &mut [u64],
-    ) -> bool
-        ensures value { result ≡ after ((shared self.now).check seeds.now region.old frontier.old scratch.old) true (λ r. false) }
+    ) -> Result<(), Refusal>
+        ensures value { result ≡ (shared self.now).check seeds.now region.old frontier.old scratch.old }
         ensures own { ((shared self.now).check seeds.now region.old frontier.old scratch.old) ≡ Ok tt → length seeds.now ≡ words_needed (shared self.now).network.nodes }
         ensures inside { region.new ≡ region_left ((shared self.now).check seeds.now region.old frontier.old scratch.old) (shared self.now).network seeds.now hops region.old }
         ensures edge { frontier.new ≡ frontier_left ((shared self.now).check seeds.now region.old frontier.old scratch.old) (shared self.now).network seeds.now hops frontier.old }
         ensures spent { scratch.new ≡ scratch_left ((shared self.now).check seeds.now region.old frontier.old scratch.old) (shared self.now).network.nodes scratch.old };
 }
 
-// Plain growths.
 #[derive(Clone, Copy)]
 struct Plain<'a> {
     topology: AbtmDualTopology<'a>,
@@ -68,16 +68,16 @@ impl<'a> Grower for Plain<'a> {
         region: &mut [u64],
         frontier: &mut [u64],
         scratch: &mut [u64],
-    ) -> bool {
+    ) -> Result<(), Refusal> {
         let mask = DofMask {
             len: self.len,
             words: seeds,
         };
-        region::grow_undirected_region(self.topology, mask, hops, region, frontier, scratch).is_ok()
+        region::grow_undirected_region(self.topology, mask, hops, region, frontier, scratch)?;
+        Ok(())
     }
 }
 
-// Growths under a layout.
 #[derive(Clone, Copy)]
 struct Fields<'a> {
     topology: AbtmDualTopology<'a>,
@@ -95,7 +95,7 @@ impl<'a> Grower for Fields<'a> {
         region: &mut [u64],
         frontier: &mut [u64],
         scratch: &mut [u64],
-    ) -> bool {
+    ) -> Result<(), Refusal> {
         let mask = DofMask {
             len: self.len,
             words: seeds,
@@ -108,8 +108,8 @@ impl<'a> Grower for Fields<'a> {
             region,
             frontier,
             scratch,
-        )
-        .is_ok()
+        )?;
+        Ok(())
     }
 }
 
@@ -130,17 +130,19 @@ fn grow_one<G: Grower>(
     ensures edge { frontier.new ≡ frontier_left ((G.shared g.now).check seeds.old region.old frontier.old scratch.old) (G.shared g.now).network seeds.old hops frontier.old }
     ensures spent { scratch.new ≡ scratch_left ((G.shared g.now).check seeds.old region.old frontier.old scratch.old) (G.shared g.now).network.nodes scratch.old }
 {
-    if g.once(seeds, hops, region, frontier, scratch) {
-        let need = seeds.len();
-        seeds.copy_from_slice(&region[..need]);
-        counted(ran, hops)
-    } else {
-        ran
+    match g.once(seeds, hops, region, frontier, scratch) {
+        Ok(()) => {
+            let need = seeds.len();
+            seeds.copy_from_slice(&region[..need]);
+            counted(ran, hops)
+        }
+        Err(_) => ran,
     }
 }
 
-// Growth i goes by hops[i] and is lent the first rooms[i] words of the three lists, as far as they reach; refused ones change nothing. What the list
-// comes to is one growth by the total from the first seeds.
+// Growth i goes by hops[i] and is lent the first rooms[i] words of the three lists, as far as they reach; refused ones change nothing. What the
+// list comes to is one growth by the total from the first seeds. Counts and rooms are two arrays, as claims and C hand them in. By index: what
+// holds after i growths is said of the first i counts and rooms, and a numbered zip would count for the proof alone.
 fn grow_all<G: Grower>(
     g: &G,
     seeds: &mut [u64],
@@ -158,11 +160,7 @@ fn grow_all<G: Grower>(
     ensures spent { scratch.new ≡ scratch_once_grown (G.shared g.now).network result scratch.old }
 {
     let shortest = region.len().min(frontier.len().min(scratch.len()));
-    let mut ran = Ran {
-        accepted: 0,
-        total: 0,
-        last: 0,
-    };
+    let mut ran = Ran::default();
     for i in 0..hops.len() {
         let part = shortest.min(rooms[i] as usize);
         ran = grow_one(
@@ -178,7 +176,6 @@ fn grow_all<G: Grower>(
     ran
 }
 
-// A list of plain growths.
 pub fn grow_list(
     topology: AbtmDualTopology,
     len: usize,
@@ -200,7 +197,7 @@ pub fn grow_list(
     grow_all(&g, seeds, hops, rooms, region, frontier, scratch)
 }
 
-// The same under a layout: demand 3 for field growths.
+// A list of growths under a layout: demand 3 for field growths.
 pub fn grow_field_list<'a>(
     topology: AbtmDualTopology<'a>,
     layout: FieldAwareDofLayout<'a>,

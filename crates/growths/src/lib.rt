@@ -4,8 +4,9 @@
 
 pub mod inner;
 
-// Of a list of growths: how many were accepted, the total of their counts, the last of their counts.
-#[derive(Clone, Copy)]
+// Of a list of growths: how many were accepted, the total of their counts, the last of their counts. `last` is 0 where none was accepted, which
+// `accepted` tells.
+#[derive(Clone, Copy, Default)]
 pub struct Ran {
     pub accepted: u64,
     pub total: u64,

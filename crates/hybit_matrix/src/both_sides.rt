@@ -15,7 +15,7 @@ use word::AbtmTopologyWord;
 
 // Counts, bytes and the ratio; all 0 on a refusal.
 #[repr(C)]
-#[derive(Clone, Copy)]
+#[derive(Clone, Copy, Default)]
 pub struct DualStatsAnswer {
     pub number: u32,
     pub present: bool,
@@ -32,7 +32,7 @@ pub struct DualStatsAnswer {
 
 // How many words each side has, and how many pairs both have.
 #[repr(C)]
-#[derive(Clone, Copy)]
+#[derive(Clone, Copy, Default)]
 pub struct BuildAnswer {
     pub number: u32,
     pub present: bool,
@@ -50,10 +50,7 @@ impl From<Result<AbtmDualTopologyStats, Refusal>> for DualStatsAnswer {
     fn from(s: Result<AbtmDualTopologyStats, Refusal>) -> Self {
         match s {
             Ok(x) => Self {
-                number: 0,
                 present: true,
-                expected: 0,
-                actual: 0,
                 nrows: x.nrows as u64,
                 ncols: x.ncols as u64,
                 structural_nnz: x.structural_nnz as u64,
@@ -61,19 +58,13 @@ impl From<Result<AbtmDualTopologyStats, Refusal>> for DualStatsAnswer {
                 column_metadata_bytes: x.column_metadata_bytes as u64,
                 total_metadata_bytes: x.total_metadata_bytes(),
                 metadata_bytes_per_nnz: x.metadata_bytes_per_nnz(),
+                ..Self::default()
             },
             Err(r) => Self {
                 number: r.number(),
-                present: false,
                 expected: r.expected(),
                 actual: r.actual(),
-                nrows: 0,
-                ncols: 0,
-                structural_nnz: 0,
-                row_metadata_bytes: 0,
-                column_metadata_bytes: 0,
-                total_metadata_bytes: 0,
-                metadata_bytes_per_nnz: 0.0,
+                ..Self::default()
             },
         }
     }
@@ -86,22 +77,17 @@ impl From<Result<TopologyCounts, Refusal>> for BuildAnswer {
     fn from(b: Result<TopologyCounts, Refusal>) -> Self {
         match b {
             Ok(x) => Self {
-                number: 0,
                 present: true,
-                expected: 0,
-                actual: 0,
                 row_words: x.row_words,
                 column_words: x.column_words,
                 pairs: x.pairs,
+                ..Self::default()
             },
             Err(r) => Self {
                 number: r.number(),
-                present: false,
                 expected: r.expected(),
                 actual: r.actual(),
-                row_words: 0,
-                column_words: 0,
-                pairs: 0,
+                ..Self::default()
             },
         }
     }

@@ -1,5 +1,6 @@
 // Every public call as one function over lists, its answer as one flat record of numbers and flags: C has neither slices nor enums with values, so
-// lists that belong together and the records stay as they are here. The static library hybit_matrix_c exports each for C.
+// lists that belong together and the records stay as they are here. Functions that are alike but for the call that they make stay as well: each is a
+// name of C's, with a record of its own. The static library hybit_matrix_c exports each for C.
 #![tactic(auto)]
 
 ghost use Rattle.std.specs.Prelude.{◌≡◌, ◌*◌};
@@ -26,7 +27,7 @@ mod views;
 // number: the refusal's number, or 0. present: there is an answer (false after a refusal, and where the answer is none).
 // value: the count, the bit, or 1 for yes and 0 for no.
 #[repr(C)]
-#[derive(Clone, Copy)]
+#[derive(Clone, Copy, Default)]
 pub struct Answer {
     pub number: u32,
     pub present: bool,
@@ -37,7 +38,7 @@ pub struct Answer {
 
 // An answer of two numbers, named at each call. The rest is as in `Answer`.
 #[repr(C)]
-#[derive(Clone, Copy)]
+#[derive(Clone, Copy, Default)]
 pub struct PairAnswer {
     pub number: u32,
     pub present: bool,
@@ -62,10 +63,9 @@ impl From<Refusal> for Answer {
     fn from(r: Refusal) -> Self {
         Self {
             number: r.number(),
-            present: false,
             expected: r.expected(),
             actual: r.actual(),
-            value: 0,
+            ..Self::default()
         }
     }
 }
@@ -75,11 +75,9 @@ impl Flat<Answer> for u64 {
 
     fn flat(self) -> Answer {
         Answer {
-            number: 0,
             present: true,
-            expected: 0,
-            actual: 0,
             value: self,
+            ..Answer::default()
         }
     }
 }
@@ -96,7 +94,7 @@ impl Flat<Answer> for bool {
     ghost flat_record = { λ b. answer_of_number (one_if b) };
 
     fn flat(self) -> Answer {
-        if self { 1u64.flat() } else { 0u64.flat() }
+        u64::from(self).flat()
     }
 }
 
@@ -115,13 +113,7 @@ impl<T: Flat<Answer>> Flat<Answer> for Option<T> {
     fn flat(self) -> Answer {
         match self {
             Some(x) => x.flat(),
-            None => Answer {
-                number: 0,
-                present: false,
-                expected: 0,
-                actual: 0,
-                value: 0,
-            },
+            None => Answer::default(),
         }
     }
 }
@@ -144,11 +136,9 @@ impl From<Refusal> for PairAnswer {
     fn from(r: Refusal) -> Self {
         Self {
             number: r.number(),
-            present: false,
             expected: r.expected(),
             actual: r.actual(),
-            first: 0,
-            second: 0,
+            ..Self::default()
         }
     }
 }
@@ -158,12 +148,10 @@ impl Flat<PairAnswer> for (u64, u64) {
 
     fn flat(self) -> PairAnswer {
         PairAnswer {
-            number: 0,
             present: true,
-            expected: 0,
-            actual: 0,
             first: self.0,
             second: self.1,
+            ..PairAnswer::default()
         }
     }
 }
@@ -175,14 +163,7 @@ impl<T: Flat<PairAnswer>> Flat<PairAnswer> for Option<T> {
     fn flat(self) -> PairAnswer {
         match self {
             Some(x) => x.flat(),
-            None => PairAnswer {
-                number: 0,
-                present: false,
-                expected: 0,
-                actual: 0,
-                first: 0,
-                second: 0,
-            },
+            None => PairAnswer::default(),
         }
     }
 }

@@ -18,7 +18,7 @@ use pattern::AbtmLocalSubmatrixPatternStats;
 
 // The statistics of a pattern, and the two ratios that follow from them; all 0 on a refusal.
 #[repr(C)]
-#[derive(Clone, Copy)]
+#[derive(Clone, Copy, Default)]
 pub struct PatternAnswer {
     pub number: u32,
     pub present: bool,
@@ -38,7 +38,7 @@ pub struct PatternAnswer {
 
 // The statistics of a plan; all 0 on a refusal.
 #[repr(C)]
-#[derive(Clone, Copy)]
+#[derive(Clone, Copy, Default)]
 pub struct PlanAnswer {
     pub number: u32,
     pub present: bool,
@@ -59,10 +59,7 @@ impl From<Result<AbtmLocalSubmatrixPatternStats, Refusal>> for PatternAnswer {
     fn from(s: Result<AbtmLocalSubmatrixPatternStats, Refusal>) -> Self {
         match s {
             Ok(x) => Self {
-                number: 0,
                 present: true,
-                expected: 0,
-                actual: 0,
                 global_nodes: x.global_nodes as u64,
                 local_nodes: x.local_nodes as u64,
                 local_nnz: x.local_nnz as u64,
@@ -73,22 +70,13 @@ impl From<Result<AbtmLocalSubmatrixPatternStats, Refusal>> for PatternAnswer {
                 pattern_bytes: x.pattern_bytes as u64,
                 structural_pruning_ratio: x.structural_pruning_ratio(),
                 average_local_row_nnz: x.average_local_row_nnz(),
+                ..Self::default()
             },
             Err(r) => Self {
                 number: r.number(),
-                present: false,
                 expected: r.expected(),
                 actual: r.actual(),
-                global_nodes: 0,
-                local_nodes: 0,
-                local_nnz: 0,
-                topology_words_visited: 0,
-                candidate_neighbor_bits: 0,
-                kept_neighbor_bits: 0,
-                mapping_scratch_bytes: 0,
-                pattern_bytes: 0,
-                structural_pruning_ratio: 0.0,
-                average_local_row_nnz: 0.0,
+                ..Self::default()
             },
         }
     }
@@ -101,28 +89,20 @@ impl From<Result<AbtmLocalNumericPlanStats, Refusal>> for PlanAnswer {
     fn from(s: Result<AbtmLocalNumericPlanStats, Refusal>) -> Self {
         match s {
             Ok(x) => Self {
-                number: 0,
                 present: true,
-                expected: 0,
-                actual: 0,
                 local_nodes: x.local_nodes as u64,
                 local_nnz: x.local_nnz as u64,
                 source_terms: x.source_terms as u64,
                 duplicate_source_terms: x.duplicate_source_terms as u64,
                 direct_source_map: x.direct_source_map,
                 plan_bytes: x.plan_bytes as u64,
+                ..Self::default()
             },
             Err(r) => Self {
                 number: r.number(),
-                present: false,
                 expected: r.expected(),
                 actual: r.actual(),
-                local_nodes: 0,
-                local_nnz: 0,
-                source_terms: 0,
-                duplicate_source_terms: 0,
-                direct_source_map: false,
-                plan_bytes: 0,
+                ..Self::default()
             },
         }
     }

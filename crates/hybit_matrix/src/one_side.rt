@@ -19,7 +19,7 @@ use word::Operation;
 
 // Counts, bytes and the three ratios; all 0 on a refusal.
 #[repr(C)]
-#[derive(Clone, Copy)]
+#[derive(Clone, Copy, Default)]
 pub struct TopologyStatsAnswer {
     pub number: u32,
     pub present: bool,
@@ -42,10 +42,7 @@ impl From<Result<AbtmTopologyStats, Refusal>> for TopologyStatsAnswer {
     fn from(s: Result<AbtmTopologyStats, Refusal>) -> Self {
         match s {
             Ok(x) => Self {
-                number: 0,
                 present: true,
-                expected: 0,
-                actual: 0,
                 nrows: x.nrows as u64,
                 ncols: x.ncols as u64,
                 structural_nnz: x.structural_nnz as u64,
@@ -54,20 +51,13 @@ impl From<Result<AbtmTopologyStats, Refusal>> for TopologyStatsAnswer {
                 average_word_nnz: x.average_word_nnz(),
                 word_fill_ratio: x.word_fill_ratio(),
                 metadata_bytes_per_nnz: x.metadata_bytes_per_nnz(),
+                ..Self::default()
             },
             Err(r) => Self {
                 number: r.number(),
-                present: false,
                 expected: r.expected(),
                 actual: r.actual(),
-                nrows: 0,
-                ncols: 0,
-                structural_nnz: 0,
-                nonempty_words: 0,
-                metadata_bytes: 0,
-                average_word_nnz: 0.0,
-                word_fill_ratio: 0.0,
-                metadata_bytes_per_nnz: 0.0,
+                ..Self::default()
             },
         }
     }

@@ -22,7 +22,7 @@ use prepared_field_region::PreparedFieldAwareLocalRegion;
 // The counts of the topology, then the statistics of topology, growth, pattern and plan; a name that two of them have is told apart by a prefix. All
 // 0 and false on a refusal.
 #[repr(C)]
-#[derive(Clone, Copy)]
+#[derive(Clone, Copy, Default)]
 pub struct PreparedAnswer {
     pub number: u32,
     pub present: bool,
@@ -75,10 +75,7 @@ impl From<Result<PreparedFieldAwareLocalRegion, Refusal>> for PreparedAnswer {
                 let pattern = x.pattern;
                 let numeric_plan = x.numeric_plan;
                 Self {
-                    number: 0,
                     present: true,
-                    expected: 0,
-                    actual: 0,
                     row_words: counts.row_words,
                     column_words: counts.column_words,
                     pairs: counts.pairs,
@@ -111,45 +108,14 @@ impl From<Result<PreparedFieldAwareLocalRegion, Refusal>> for PreparedAnswer {
                     duplicate_source_terms: numeric_plan.duplicate_source_terms,
                     direct_source_map: numeric_plan.direct_source_map,
                     plan_bytes: numeric_plan.plan_bytes,
+                    ..Self::default()
                 }
             }
             Err(r) => Self {
                 number: r.number(),
-                present: false,
                 expected: r.expected(),
                 actual: r.actual(),
-                row_words: 0,
-                column_words: 0,
-                pairs: 0,
-                topology_nrows: 0,
-                topology_ncols: 0,
-                structural_nnz: 0,
-                row_metadata_bytes: 0,
-                column_metadata_bytes: 0,
-                hops_requested: 0,
-                hops_completed: 0,
-                seed_dofs: 0,
-                block_closed_seed_dofs: 0,
-                region_dofs: 0,
-                region_blocks: 0,
-                frontier_dofs_visited: 0,
-                row_words_visited: 0,
-                column_words_visited: 0,
-                candidate_neighbor_bits: 0,
-                global_nodes: 0,
-                local_nodes: 0,
-                local_nnz: 0,
-                topology_words_visited: 0,
-                pattern_candidate_bits: 0,
-                kept_neighbor_bits: 0,
-                mapping_scratch_bytes: 0,
-                pattern_bytes: 0,
-                plan_local_nodes: 0,
-                plan_local_nnz: 0,
-                source_terms: 0,
-                duplicate_source_terms: 0,
-                direct_source_map: false,
-                plan_bytes: 0,
+                ..Self::default()
             },
         }
     }

@@ -22,7 +22,7 @@ use region::AbtmRegionGrowthStats;
 
 // The statistics of a growth, and the two figures that follow from them; all 0 on a refusal.
 #[repr(C)]
-#[derive(Clone, Copy)]
+#[derive(Clone, Copy, Default)]
 pub struct GrowthAnswer {
     pub number: u32,
     pub present: bool,
@@ -42,7 +42,7 @@ pub struct GrowthAnswer {
 
 // The statistics of a field growth; all 0 on a refusal.
 #[repr(C)]
-#[derive(Clone, Copy)]
+#[derive(Clone, Copy, Default)]
 pub struct FieldGrowthAnswer {
     pub number: u32,
     pub present: bool,
@@ -62,7 +62,7 @@ pub struct FieldGrowthAnswer {
 
 // The statistics of the regions; all 0 on a refusal.
 #[repr(C)]
-#[derive(Clone, Copy)]
+#[derive(Clone, Copy, Default)]
 pub struct MultiplicityAnswer {
     pub number: u32,
     pub present: bool,
@@ -87,10 +87,7 @@ impl From<Result<AbtmRegionGrowthStats, Refusal>> for GrowthAnswer {
     fn from(s: Result<AbtmRegionGrowthStats, Refusal>) -> Self {
         match s {
             Ok(x) => Self {
-                number: 0,
                 present: true,
-                expected: 0,
-                actual: 0,
                 hops_requested: x.hops_requested,
                 hops_completed: x.hops_completed,
                 seed_nodes: x.seed_nodes,
@@ -101,22 +98,13 @@ impl From<Result<AbtmRegionGrowthStats, Refusal>> for GrowthAnswer {
                 candidate_neighbor_bits: x.candidate_neighbor_bits,
                 topology_words_visited: x.topology_words_visited(),
                 new_nodes: x.new_nodes(),
+                ..Self::default()
             },
             Err(r) => Self {
                 number: r.number(),
-                present: false,
                 expected: r.expected(),
                 actual: r.actual(),
-                hops_requested: 0,
-                hops_completed: 0,
-                seed_nodes: 0,
-                region_nodes: 0,
-                frontier_nodes_visited: 0,
-                row_words_visited: 0,
-                column_words_visited: 0,
-                candidate_neighbor_bits: 0,
-                topology_words_visited: 0,
-                new_nodes: 0,
+                ..Self::default()
             },
         }
     }
@@ -129,10 +117,7 @@ impl From<Result<FieldAwareRegionStats, Refusal>> for FieldGrowthAnswer {
     fn from(s: Result<FieldAwareRegionStats, Refusal>) -> Self {
         match s {
             Ok(x) => Self {
-                number: 0,
                 present: true,
-                expected: 0,
-                actual: 0,
                 hops_requested: x.hops_requested,
                 hops_completed: x.hops_completed,
                 seed_dofs: x.seed_dofs,
@@ -143,22 +128,13 @@ impl From<Result<FieldAwareRegionStats, Refusal>> for FieldGrowthAnswer {
                 row_words_visited: x.row_words_visited,
                 column_words_visited: x.column_words_visited,
                 candidate_neighbor_bits: x.candidate_neighbor_bits,
+                ..Self::default()
             },
             Err(r) => Self {
                 number: r.number(),
-                present: false,
                 expected: r.expected(),
                 actual: r.actual(),
-                hops_requested: 0,
-                hops_completed: 0,
-                seed_dofs: 0,
-                block_closed_seed_dofs: 0,
-                region_dofs: 0,
-                region_blocks: 0,
-                frontier_dofs_visited: 0,
-                row_words_visited: 0,
-                column_words_visited: 0,
-                candidate_neighbor_bits: 0,
+                ..Self::default()
             },
         }
     }
@@ -171,10 +147,7 @@ impl From<Result<AbtmRegionMultiplicityStats, Refusal>> for MultiplicityAnswer {
     fn from(s: Result<AbtmRegionMultiplicityStats, Refusal>) -> Self {
         match s {
             Ok(x) => Self {
-                number: 0,
                 present: true,
-                expected: 0,
-                actual: 0,
                 region_count: x.region_count,
                 node_count: x.node_count,
                 total_memberships: x.total_memberships,
@@ -185,22 +158,13 @@ impl From<Result<AbtmRegionMultiplicityStats, Refusal>> for MultiplicityAnswer {
                 extra_memberships: x.extra_memberships,
                 average_multiplicity_on_covered: x.average_multiplicity_on_covered,
                 overlap_fraction_on_covered: x.overlap_fraction_on_covered,
+                ..Self::default()
             },
             Err(r) => Self {
                 number: r.number(),
-                present: false,
                 expected: r.expected(),
                 actual: r.actual(),
-                region_count: 0,
-                node_count: 0,
-                total_memberships: 0,
-                covered_nodes: 0,
-                overlap_nodes: 0,
-                max_multiplicity: 0,
-                pair_overlap_memberships: 0,
-                extra_memberships: 0,
-                average_multiplicity_on_covered: 0.0,
-                overlap_fraction_on_covered: 0.0,
+                ..Self::default()
             },
         }
     }
@@ -369,7 +333,10 @@ pub fn hybit_region_multiplicity(
     ensures value { result ≡ flat_of_regions (multiplicity_answer (multiplicity_check node_count region_count words.now counts.old) node_count region_count words.now) }
     ensures counts_after { counts.new ≡ multiplicity_counts (multiplicity_check node_count region_count words.now counts.old) node_count region_count words.now counts.old }
 {
-    multiplicity::region_multiplicity(node_count, region_count, words, counts).into()
+    multiplicity::region_multiplicity(
+        views::regions(node_count, region_count, words),
+        counts,
+    ).into()
 }
 
 // value: the region's weight at a node, 65,536 divided by the node's multiplicity, rounded down; 0 where it does not hold it. Refuses 1, 11, 12, 13.
@@ -382,5 +349,10 @@ pub fn hybit_weight(
 ) -> Answer
     ensures { result ≡ flat_of_counted (weight_answer node_count region_count words.now region node) }
 {
-    multiplicity::weight(node_count, region_count, words, region, node).into()
+    multiplicity::weight(
+        views::regions(node_count, region_count, words),
+        region,
+        node,
+    )
+    .into()
 }

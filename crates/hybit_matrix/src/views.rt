@@ -5,6 +5,7 @@ use csr32::Csr32Matrix;
 use dof_layout::{FieldAwareDofLayout, FieldBlocks};
 use dual_topology::AbtmDualTopology;
 use mask::DofMask;
+use multiplicity::FlatRegions;
 use side::AbtmTopology;
 
 pub(crate) fn matrix<'a>(
@@ -29,6 +30,20 @@ pub(crate) fn mask<'a>(len: usize, words: &'a [u64]) -> DofMask<'a>
     ensures { result ≡ record { len = len; words = words.entry } }
 {
     DofMask { len, words }
+}
+
+pub(crate) fn regions<'a>(
+    node_count: usize,
+    region_count: usize,
+    words: &'a [u64],
+) -> FlatRegions<'a>
+    ensures { result ≡ record { node_count = node_count; region_count = region_count; words = words.entry } }
+{
+    FlatRegions {
+        node_count,
+        region_count,
+        words,
+    }
 }
 
 pub(crate) fn side<'a>(
@@ -68,22 +83,22 @@ pub(crate) fn topology<'a>(
     ensures { result ≡ record { rows = record { nrows = nrows; ncols = ncols; row_word_ptr = row_word_ptr.entry; word_indices = row_word_indices.entry; masks = row_masks.entry; structural_nnz = structural_nnz }; columns = record { nrows = column_nrows; ncols = column_ncols; row_word_ptr = column_word_ptr.entry; word_indices = column_word_indices.entry; masks = column_masks.entry; structural_nnz = column_structural_nnz } } }
 {
     AbtmDualTopology {
-        rows: AbtmTopology {
+        rows: side(
             nrows,
             ncols,
             row_word_ptr,
-            word_indices: row_word_indices,
-            masks: row_masks,
+            row_word_indices,
+            row_masks,
             structural_nnz,
-        },
-        columns: AbtmTopology {
-            nrows: column_nrows,
-            ncols: column_ncols,
-            row_word_ptr: column_word_ptr,
-            word_indices: column_word_indices,
-            masks: column_masks,
-            structural_nnz: column_structural_nnz,
-        },
+        ),
+        columns: side(
+            column_nrows,
+            column_ncols,
+            column_word_ptr,
+            column_word_indices,
+            column_masks,
+            column_structural_nnz,
+        ),
     }
 }
 
@@ -113,12 +128,7 @@ pub(crate) fn layout<'a>(
     ensures { result ≡ record { blocks = record { entity_kinds = entity_kinds.entry; entity_ids = entity_ids.entry; field_ids = field_ids.entry; components = components.entry }; offsets = offsets.entry } }
 {
     FieldAwareDofLayout {
-        blocks: FieldBlocks {
-            entity_kinds,
-            entity_ids,
-            field_ids,
-            components,
-        },
+        blocks: blocks(entity_kinds, entity_ids, field_ids, components),
         offsets,
     }
 }

@@ -1,2 +1,3 @@
 pub mod Job
 pub mod Answer
+pub mod Views

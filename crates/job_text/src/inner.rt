@@ -3,7 +3,7 @@ ghost use Rattle.std.specs.Prelude.{◌≡◌, ◌≤◌, length, take};
 ghost use Rattle.base.specs.Lists.{over};
 ghost use Rattle.job_text.specs.Job.{job_of, job_found, figures_read};
 ghost use Rattle.text_writing.specs.Text.{decimal, line};
-ghost use Rattle.job_text.specs.Answer.{refused_text, refused_key, result_lines, text_answer, text_left};
+ghost use Rattle.job_text.specs.Answer.{refused_text, refused_key, text_answer, text_left};
 
 use crate::JobRead;
 use base::Refusal;
@@ -64,7 +64,7 @@ pub fn refuse(r: Refusal, out: &mut [u8]) -> Result<u64, Refusal>
     ensures value { result ≡ text_answer (refused_text r) out.old }
     ensures out_after { out.new ≡ text_left (refused_text r) out.old }
 {
-    write_refused(r.number(), out)
+    write_refused(r.into(), out)
 }
 
 fn write_refused(number: u32, out: &mut [u8]) -> Result<u64, Refusal>
@@ -80,65 +80,59 @@ fn write_refused(number: u32, out: &mut [u8]) -> Result<u64, Refusal>
     Ok(length as u64)
 }
 
-// How many bytes the five lines take.
-#[tactic(auto, using(crate::proofs::Lines::lengths))]
-fn result_length(
-    region: &[u32],
-    frontier: &[u32],
-    completed: u64,
-    ptr: &[u32],
-    cols: &[u32],
-) -> usize
-    requires { (length region.now ≤ 1024) × (length frontier.now ≤ 1024) × (length ptr.now ≤ 1024) × (length cols.now ≤ 1024) }
-    ensures { result ≡ length (result_lines region.now frontier.now completed ptr.now cols.now) }
-{
-    let members = list_length(region);
-    let edge = list_length(frontier);
-    let hops = decimal_length(completed);
-    let pointers = list_length(ptr);
-    let columns = list_length(cols);
-    52 + members + edge + hops + pointers + columns
+// What is told of an accepted job: the region's members and the last frontier's, how many hops were made, and the pattern of the local matrix.
+// Lists of the program's arrays, so that the length of their text fits.
+#[derive(Clone, Copy)]
+pub struct JobResult<'a> {
+    pub region: &'a [u32],
+    pub frontier: &'a [u32],
+    pub completed: u64,
+    pub ptr: &'a [u32],
+    pub cols: &'a [u32],
+    ghost few: { (length region.now ≤ 1024) × (length frontier.now ≤ 1024) × (length ptr.now ≤ 1024) × (length cols.now ≤ 1024) },
 }
 
-// The five lines, at the front of a list with room for them.
-#[tactic(auto, using(crate::proofs::Lines::sums))]
-fn write_lines(
-    region: &[u32],
-    frontier: &[u32],
-    completed: u64,
-    ptr: &[u32],
-    cols: &[u32],
-    out: &mut [u8],
-)
-    requires { length (result_lines region.now frontier.now completed ptr.now cols.now) ≤ length out.old }
-    ensures { out.new ≡ over (result_lines region.now frontier.now completed ptr.now cols.now) out.old }
-{
-    let mut text = Output { bytes: out, len: 0 };
-    put_line(b"region=", region, &mut text);
-    put_line(b"frontier=", frontier, &mut text);
-    put_line(b"completed=", completed, &mut text);
-    put_line(b"local_ptr=", ptr, &mut text);
-    put_line(b"local_cols=", cols, &mut text);
-}
+impl JobResult<'_> {
+    ghost use Rattle.job_text.specs.Views.{lines_of};
 
-// The answer of an accepted job.
-#[tactic(auto, using(base::proofs::Checks::checks), unfolding(crate::specs::Answer::text_check))]
-pub fn write_result(
-    region: &[u32],
-    frontier: &[u32],
-    completed: u64,
-    ptr: &[u32],
-    cols: &[u32],
-    out: &mut [u8],
-) -> Result<u64, Refusal>
-    requires { (length region.now ≤ 1024) × (length frontier.now ≤ 1024) × (length ptr.now ≤ 1024) × (length cols.now ≤ 1024) }
-    ensures value { result ≡ text_answer (result_lines region.now frontier.now completed ptr.now cols.now) out.old }
-    ensures out_after { out.new ≡ text_left (result_lines region.now frontier.now completed ptr.now cols.now) out.old }
-{
-    let length = result_length(region, frontier, completed, ptr, cols);
-    if length > out.len() {
-        return Err(Refusal::ListTooShort);
+    // How many bytes the five lines take.
+    #[tactic(auto, using(crate::proofs::Lines::lengths))]
+    fn text_length(self) -> usize
+        ensures { result ≡ length (lines_of self.entry) }
+    {
+        let members = list_length(self.region);
+        let edge = list_length(self.frontier);
+        let hops = decimal_length(self.completed);
+        let pointers = list_length(self.ptr);
+        let columns = list_length(self.cols);
+        52 + members + edge + hops + pointers + columns
     }
-    write_lines(region, frontier, completed, ptr, cols, out);
-    Ok(length as u64)
+
+    // The five lines, at the front of a list with room for them.
+    #[tactic(auto, using(crate::proofs::Lines::sums))]
+    fn write_lines(self, out: &mut [u8])
+        requires { length (lines_of self) ≤ length out.old }
+        ensures { out.new ≡ over (lines_of self.entry) out.old }
+    {
+        let mut text = Output { bytes: out, len: 0 };
+        put_line(b"region=", self.region, &mut text);
+        put_line(b"frontier=", self.frontier, &mut text);
+        put_line(b"completed=", self.completed, &mut text);
+        put_line(b"local_ptr=", self.ptr, &mut text);
+        put_line(b"local_cols=", self.cols, &mut text);
+    }
+
+    // The answer of an accepted job.
+    #[tactic(auto, using(base::proofs::Checks::checks), unfolding(crate::specs::Answer::text_check))]
+    pub fn write(self, out: &mut [u8]) -> Result<u64, Refusal>
+        ensures value { result ≡ text_answer (lines_of self.entry) out.old }
+        ensures out_after { out.new ≡ text_left (lines_of self.entry) out.old }
+    {
+        let length = self.text_length();
+        if length > out.len() {
+            return Err(Refusal::ListTooShort);
+        }
+        self.write_lines(out);
+        Ok(length as u64)
+    }
 }

@@ -213,10 +213,6 @@ mask-none len =
         ∙ sym (word_none (λ i. ltb i len && false) 64 (64 * w) (λ i a b t. and_r (ltb i len) false t))
         ∙ sym (word_at len (λ i. false) w l)
 
--- two masks of the same nodes have one length
-pub masks-length : (n : ℕ) (p q : ℕ → Bool) (a b : List ℕ) → a ≡ mask_words n p → b ≡ mask_words n q → length a ≡ length b
-masks-length n p q a b e f = ap length e ∙ mask-length n p ∙ sym (mask-length n q) ∙ ap length (sym f)
-
 -- zeros to spare: the first of them are the empty mask
 pub zeros-empty : (n m need : ℕ) → need ≡ words_needed n → need ≤ m → take need (replicate {A = ℕ} m 0) ≡ mask_words n (λ i. false)
 zeros-empty n m need e h =

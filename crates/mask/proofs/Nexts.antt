@@ -1,5 +1,6 @@
 -- The next member of a mask: the lowest set bit of what is left of a word, or of the first later word that is not 0. Assumes nothing.
-use mathlib.Core.Path.{◌≡◌, sym, ap, ◌∙◌, subst}
+use mathlib.Core.Path.{◌≡◌, sym, ap, ap₂, ◌∙◌, subst}
+use Rattle.std.specs.Prelude.{Some, None}
 use mathlib.Core.Logic.{◌⊎◌, inl, inr, ◌≢◌}
 use mathlib.Core.Bool.{Bool}
 use mathlib.Core.List.{List}
@@ -16,11 +17,10 @@ use Rattle.word.specs.Bits.{bit_at}
 use Rattle.word.proofs.Bits.{bit-shr, first_bit, zero_bit}
 use Rattle.word.proofs.Words.{bit_past}
 use Rattle.mask.specs.Mask.{in_mask, IsMask}
+use Rattle.mask.specs.Walk.{next_member_of, StepsOn}
+use Rattle.mask.specs.declared.inner.Mask.{Mask}
+use Rattle.mask.specs.declared.inner.Members.{Members}
 use Rattle.mask.proofs.Masks.{sizes, in-word, is-length, is-fits, is_below}
-
--- the next member from `from` on, or the length
-abbrev pub next_member_of : ℕ → List ℕ → ℕ → ℕ
-next_member_of len words from = from + first_below (len - from) (λ j. in_mask words (from + j))
 
 -- no member from `from` up to `to`
 abbrev pub NoMember : List ℕ → ℕ → ℕ → Type 0
@@ -112,6 +112,9 @@ module _ (len : ℕ) (words : List ℕ) (m : IsMask len words) where
 
 -- ---- for a walk from member to member
 
+pub next_within : (len : ℕ) (words : List ℕ) (from : ℕ) → from ≤ len → next_member_of len words from ≤ len
+next_within len words from h = omega (arith, (first-at (len - from) (λ j. in_mask words (from + j))).within)
+
 pub record Next (len : ℕ) (words : List ℕ) (from i : ℕ) : Type 0 where
   pub since : from ≤ i
   pub within : i ≤ len
@@ -129,6 +132,45 @@ next-is len words from i h e =
           let s : from + (k - from) ≡ k = omega arith in
           f.before (k - from) (omega arith) (subst (λ (x : ℕ). T (in_mask words x)) (sym s) t);
     }
+
+-- ---- for a walk by `Mask::members`
+
+-- the walk is over this mask
+pub record Over (len : ℕ) (words : List ℕ) (s : Members) : Type 0 where
+  pub sized : s.mask.len ≡ len
+  pub held : s.mask.words.now ≡ words
+
+-- the member that comes next, or the length
+abbrev pub coming : ℕ → List ℕ → Members → ℕ
+coming len words s = next_member_of len words s.at
+
+-- one member was given
+pub record Given (len : ℕ) (words : List ℕ) (s : Members) (i : ℕ) (t : Members) : Type 0 where
+  pub here : i ≡ coming len words s
+  pub inside : i < len
+  pub over : Over len words t
+  pub next : Next len words (i + 1) (coming len words t)
+
+module _ (len : ℕ) (words : List ℕ) (s : Members) where
+  pub walk-starts : s.at ≡ 0 → Next len words 0 (coming len words s)
+  walk-starts e = next-is len words 0 (coming len words s) (omega arith) (ap (next_member_of len words) e)
+
+  module _ (o : Over len words s) (t : Members) where
+    same : next_member_of s.mask.len s.mask.words.now s.at ≡ coming len words s
+    same = ap₂ (λ (n : ℕ) (w : List ℕ). next_member_of n w s.at) o.sized o.held
+
+    pub walk-gives : (i : ℕ) → StepsOn s (Some i) t → Given len words s i t
+    walk-gives i (e, (h, l, k)) =
+        let inside : i < len = omega (arith, l, o.sized) in
+        record {
+          here = h ∙ same;
+          inside = inside;
+          over = record { sized = ap (λ (m : Mask). m.len) e ∙ o.sized; held = ap (λ (m : Mask). m.words.now) e ∙ o.held };
+          next = next-is len words (i + 1) (coming len words t) (omega (arith, inside)) (ap (next_member_of len words) k);
+        }
+
+    pub walk-ends : StepsOn s None t → len ≤ coming len words s
+    walk-ends (e, h) = omega (arith, sym same ∙ h ∙ o.sized)
 
 -- what the scan looks for
 pub ruleset walking = (none_ahead, next_over, sizes)

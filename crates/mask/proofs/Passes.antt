@@ -7,7 +7,7 @@ use Prim.Native.Nat.{ℕ, suc, ◌+◌, ◌-◌, ◌*◌, ◌/◌, ◌%◌, ◌^
 use native.Mathlib.Omega.{arith}
 use native.Mathlib.Nat.{lt_of_le_of_lt}
 use lib.Bits.{bit_and, bit_or, and_le_l}
-use lib.Count.{ones, count_trailing_zeros}
+use lib.Count.{ones}
 use lib.Dec.{T, ltb, eqb}
 use lib.ListN.{length, get_or, set, drop, length-drop}
 use Rattle.std.specs.List.{list_any}
@@ -19,7 +19,7 @@ use Rattle.base.proofs.Sets.{count-members, count-le, sum-zero, None, any-i, any
 use Rattle.word.specs.Bits.{bit_at, set_bits, word_from}
 use Rattle.word.specs.Answers.{on}
 use Rattle.word.specs.declared.Operation.{Operation}
-use Rattle.word.proofs.Bits.{zero_bit, bit-and, lowest, no_bits}
+use Rattle.word.proofs.Bits.{zero_bit, bit-and}
 use Rattle.word.proofs.Turns.{some_turn, count_turn, turn-members}
 use Rattle.word.proofs.Answers.{off}
 use Rattle.word.proofs.Words.{word-ext, on-words, word-empty, or-empty}
@@ -148,17 +148,11 @@ open-word words w h =
     ∙ ap₂ (λ (a b : List ℕ). a ++ b) (turn-members (in_mask words) w (get_or words w 0) (λ j l. in-word words w j l))
     (ap (λ (b : ℕ). members_from (in_mask words) b (64 * (length words - (w + 1)))) f)
 
--- one member: `t` is what later words hold
-pub member-turn : (l t : List ℕ) (n w b : ℕ) → (b ≡ 0 → ⊥) → b < 2 ^ 64 → drop n l ≡ map (λ (i : ℕ). 64 * w + i) (set_bits b) ++ t
-    → (n < length l) × (64 * w + count_trailing_zeros 64 b ≡ get_or l n 0)
-    × (drop (n + 1) l ≡ map (λ (i : ℕ). 64 * w + i) (set_bits (bit_and b (b - 1))) ++ t)
-member-turn l t n w b p h e =
-    at_head l n (64 * w + count_trailing_zeros 64 b) (map (λ (i : ℕ). 64 * w + i) (set_bits (bit_and b (b - 1))) ++ t) 0
-    (e ∙ ap (λ (m : List ℕ). map (λ (i : ℕ). 64 * w + i) m ++ t) (lowest 64 b (omega arith) h))
-
-pub word-done : (l t : List ℕ) (n w b : ℕ) → b ≡ 0 → drop n l ≡ map (λ (i : ℕ). 64 * w + i) (set_bits b) ++ t → drop n l ≡ t
-word-done l t n w b z e =
-    e ∙ ap (λ (m : ℕ). map (λ (i : ℕ). 64 * w + i) (set_bits m) ++ t) z ∙ ap (λ (m : List ℕ). map (λ (i : ℕ). 64 * w + i) m ++ t) (no_bits 64)
+-- one member, of the word's bits that are left: `t` is what later words hold
+pub member-turn : (l t left rest : List ℕ) (n w b : ℕ) → left ≡ b ∷ rest → drop n l ≡ map (λ (i : ℕ). 64 * w + i) left ++ t
+    → (n < length l) × (64 * w + b ≡ get_or l n 0) × (drop (n + 1) l ≡ map (λ (i : ℕ). 64 * w + i) rest ++ t)
+member-turn l t left rest n w b h e =
+    at_head l n (64 * w + b) (map (λ (i : ℕ). 64 * w + i) rest ++ t) 0 (e ∙ ap (λ (m : List ℕ). map (λ (i : ℕ). 64 * w + i) m ++ t) h)
 
 -- n of the members are written, and `rest` is to come
 pub record Written (members rest before out : List ℕ) (n : ℕ) : Type 0 where
@@ -176,19 +170,19 @@ module _ (l before out : List ℕ) (n w : ℕ) where
       → Written l (map (λ (i : ℕ). 64 * w + i) (set_bits (get_or words w 0)) ++ ahead words (w + 1)) before out n
   written-open words h s = record { room = s.room; done = s.done; left = s.left ∙ open-word words w h }
 
-  module _ (t : List ℕ) (b : ℕ) (s : Written l (map (λ (i : ℕ). 64 * w + i) (set_bits b) ++ t) before out n) where
-    pub written-room : (b ≡ 0 → ⊥) → b < 2 ^ 64 → n < length l
-    written-room p fits = (member-turn l t n w b p fits s.left).0
+  module _ (t left : List ℕ) (s : Written l (map (λ (i : ℕ). 64 * w + i) left ++ t) before out n) where
+    module _ (b : ℕ) (rest : List ℕ) (h : left ≡ b ∷ rest) where
+      pub written-room : n < length l
+      written-room = (member-turn l t left rest n w b h s.left).0
 
-    pub written-turn : (b ≡ 0 → ⊥) → b < 2 ^ 64 → length l ≤ length before
-        → Written l (map (λ (i : ℕ). 64 * w + i) (set_bits (bit_and b (b - 1))) ++ t) before (set out n (w * 64 + count_trailing_zeros 64 b)) (n + 1)
-    written-turn p fits room =
-        let e = member-turn l t n w b p fits s.left in
-        let v : w * 64 + count_trailing_zeros 64 b ≡ get_or l n 0 = omega (arith, e.1) in
-        record { room = omega (arith, e.0); done = put_next l before out n (w * 64 + count_trailing_zeros 64 b) 0 e.0 (omega (arith, e.0)) s.done v; left = e.2 }
+      pub written-turn : length l ≤ length before → Written l (map (λ (i : ℕ). 64 * w + i) rest ++ t) before (set out n (w * 64 + b)) (n + 1)
+      written-turn room =
+          let e = member-turn l t left rest n w b h s.left in
+          let v : w * 64 + b ≡ get_or l n 0 = omega (arith, e.1) in
+          record { room = omega (arith, e.0); done = put_next l before out n (w * 64 + b) 0 e.0 (omega (arith, e.0)) s.done v; left = e.2 }
 
-    pub written-done : b ≡ 0 → Written l t before out n
-    written-done z = record { room = s.room; done = s.done; left = word-done l t n w b z s.left }
+    pub written-done : left ≡ [] → Written l t before out n
+    written-done z = record { room = s.room; done = s.done; left = s.left ∙ ap (λ (m : List ℕ). map (λ (i : ℕ). 64 * w + i) m ++ t) z }
 
   pub written-end : (words : List ℕ) → length words ≤ w → Written l (ahead words w) before out n → out ≡ over l before
   written-end words h s =

@@ -1,5 +1,6 @@
 -- What document 01 says of a mask, of one that is lent and of one that was accepted.
-use Rattle.std.specs.Prelude.{Bool, ℕ}
+-- `x_check` says what is refused, of numbers and lists as document 01 names them; `check_x` says the same of the struct that they are lent in.
+use Rattle.std.specs.Prelude.{◌≡◌, Bool, ℕ}
 use Rattle.base.specs.Checks.{Check}
 use Rattle.mask.specs.declared.DofMask.{DofMask}
 use Rattle.mask.specs.declared.inner.Mask.{Mask}
@@ -12,3 +13,7 @@ check_mask m = mask_check m.len m.words.now
 -- the nodes that it holds
 abbrev pub nodes : Mask → ℕ → Bool
 nodes m = in_mask m.words.now
+
+-- the lent mask as it was accepted
+abbrev pub AcceptedFrom : DofMask → Mask → Type 0
+AcceptedFrom d m = (m.len ≡ d.len) × (m.words ≡ d.words)

@@ -1,7 +1,7 @@
 // A mask: a length, and 64-bit words; node i is bit i mod 64 of word i / 64. The functions of DofMask on a lent word list.
 #![tactic(auto, using(crate::proofs::Masks::answers), unfolding(crate::specs::Mask::mask_check, crate::specs::Answers::set_check, crate::specs::Answers::pair_check, crate::specs::Answers::indices_check, crate::specs::Answers::new_check, crate::specs::Answers::from_check))]
 
-ghost use Rattle.std.specs.Prelude.{◌≡◌, IfOk};
+ghost use Rattle.std.specs.Prelude.{◌≡◌, IfOk, IfErr, Err};
 ghost use Rattle.word.specs.Answers.{on};
 ghost use Rattle.mask.specs.Mask.{mask_check, IsMask};
 ghost use Rattle.mask.specs.Answers.{new_check, new_words, from_check, from_words, empty_answer, count_answer, contains_answer, set_check, set_words, pair_check, combined_words, union, intersection, and_not_of, intersects_answer, indices_answer, indices_list, or_word_words};
@@ -19,6 +19,8 @@ pub struct DofMask<'a> {
     pub words: &'a [u64],
 }
 
+// The test for room and the cut stand here and in each function that writes the front of a list: as one function it would hand a part of the list back,
+// and each promise of a whole list would go through that.
 pub fn new(len: usize, out: &mut [u64]) -> Result<(), Refusal>
     ensures value { result ≡ new_check len out.old }
     ensures out_after { out.new ≡ new_words len out.old }
@@ -67,53 +69,30 @@ impl DofMask<'_> {
     pub fn is_empty(self) -> Result<bool, Refusal>
         ensures { result ≡ empty_answer self.entry.len self.entry.words.now }
     {
-        self.check()?;
-        Ok(!Mask {
-            len: self.len,
-            words: self.words,
-        }
-        .any_node())
+        let mask = self.accept()?;
+        Ok(!mask.any_node())
     }
 
     pub fn count_ones(self) -> Result<u64, Refusal>
         ensures { result ≡ count_answer self.entry.len self.entry.words.now }
     {
-        self.check()?;
-        Ok(Mask {
-            len: self.len,
-            words: self.words,
-        }
-        .count())
+        let mask = self.accept()?;
+        Ok(mask.count())
     }
 
     // Past the length the answer is no.
     pub fn contains(self, index: u64) -> Result<bool, Refusal>
         ensures { result ≡ contains_answer self.entry.len self.entry.words.now index }
     {
-        self.check()?;
-        if index < self.len as u64 {
-            Ok(Mask {
-                len: self.len,
-                words: self.words,
-            }
-            .holds(index as usize))
-        } else {
-            Ok(false)
-        }
+        let mask = self.accept()?;
+        Ok(index < mask.len as u64 && mask.holds(index as usize))
     }
 
     pub fn intersects(self, other: DofMask) -> Result<bool, Refusal>
         ensures { result ≡ intersects_answer self.entry.len self.entry.words.now other.entry.len other.entry.words.now }
     {
-        check_pair(self, other)?;
-        Ok(Mask {
-            len: self.len,
-            words: self.words,
-        }
-        .any_common(Mask {
-            len: self.len,
-            words: other.words,
-        }))
+        let (mask, other) = self.accept_pair(other)?;
+        Ok(mask.any_common(other))
     }
 
     // The members in rising order; answers their count.
@@ -121,11 +100,7 @@ impl DofMask<'_> {
         ensures value { result ≡ indices_answer self.entry.len self.entry.words.now out.old }
         ensures out_after { out.new ≡ indices_list self.entry.len self.entry.words.now out.old }
     {
-        self.check()?;
-        let mask = Mask {
-            len: self.len,
-            words: self.words,
-        };
+        let mask = self.accept()?;
         let count = mask.count();
         if (out.len() as u64) < count {
             return Err(Refusal::ListTooShort);
@@ -135,17 +110,22 @@ impl DofMask<'_> {
     }
 }
 
-// The first, then the second with its length against the first's.
-fn check_pair(mask: DofMask, other: DofMask) -> Result<(), Refusal>
-    ensures value { result ≡ pair_check mask.entry.len mask.entry.words.now other.entry.len other.entry.words.now }
-    ensures accepted { IfOk result (λ t. IsMask mask.entry.len mask.entry.words.now × IsMask mask.entry.len other.entry.words.now) }
-{
-    mask.check()?;
-    inner::check_length(mask.len, other.len, other.words)
+impl<'a> DofMask<'a> {
+    ghost use Rattle.mask.specs.Views.{AcceptedFrom};
+
+    // The first, then the second with its length against the first's.
+    fn accept_pair<'b>(self, other: DofMask<'b>) -> Result<(Mask<'a>, Mask<'b>), Refusal>
+        ensures refused { IfErr result (λ e. pair_check self.entry.len self.entry.words.now other.entry.len other.entry.words.now ≡ Err e) }
+        ensures accepted { IfOk result (λ m. (pair_check self.entry.len self.entry.words.now other.entry.len other.entry.words.now ≡ Ok tt) × (m.1.len ≡ m.0.len) × AcceptedFrom self.entry m.0 × AcceptedFrom other.entry m.1) }
+    {
+        let mask = self.accept()?;
+        let other = other.accept_of(mask.len)?;
+        Ok((mask, other))
+    }
 }
 
-// A mask that is changed is a length and its words: as a struct it would be taken apart again by each call. `value` says whether the node is in
-// afterwards, as in the Rust.
+// A mask that is written is a length and a list: the list has an equation, and in a struct behind `&mut` each contract would say besides that the
+// reference stays. `value` says whether the node is in afterwards, as in the Rust.
 pub fn set(len: usize, words: &mut [u64], index: u64, value: bool) -> Result<(), Refusal>
     ensures value { result ≡ set_check len words.old index }
     ensures words_after { words.new ≡ set_words len words.old index value }
@@ -188,7 +168,7 @@ fn combine_assign(
     ensures value { result ≡ pair_check len words.old other.entry.len other.entry.words.now }
     ensures words_after { words.new ≡ combined_words (on op) len words.old other.entry.len other.entry.words.now }
 {
-    check_pair(DofMask { len, words }, other)?;
+    let (_, other) = DofMask { len, words }.accept_pair(other)?;
     inner::combine(len, words, other.words, op);
     Ok(())
 }

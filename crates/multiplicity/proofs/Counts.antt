@@ -1,15 +1,18 @@
 -- A node's multiplicity, region by region, and a list of them. Assumes nothing.
-use mathlib.Core.Path.{◌≡◌, sym, ap, ap₂, ◌∙◌}
+use mathlib.Core.Path.{◌≡◌, refl, sym, ap, ap₂, ◌∙◌}
 use mathlib.Core.Logic.{◌⊎◌, inl, inr}
-use mathlib.Core.Bool.{true}
+use mathlib.Core.Bool.{Bool, true, false, cond}
 use mathlib.Core.List.{List, ◌++◌}
-use Prim.Native.Nat.{ℕ, ◌+◌, ◌≤◌, ◌<◌}
+use Prim.Native.Nat.{ℕ, zero, suc, ◌+◌, ◌≤◌, ◌<◌}
 use native.Mathlib.Nat.{zero-add}
 use native.Mathlib.Omega.{arith}
 use lib.ListN.{length, get_or, take, drop, replicate, length-replicate, get_or-replicate, get_or-eq_default}
-use lib.Seq.{ext_get_or}
+use lib.Seq.{ext_get_or, take-length}
+use Rattle.std.specs.List.{filter, range_with_len}
+use Rattle.std.proofs.lemmas.List.FromFn.{length-range_with_len, get_or-range_with_len}
+use Rattle.std.proofs.lemmas.List.Filters.{length-filter_more}
 use Rattle.base.specs.Lists.{list_from}
-use Rattle.base.specs.Sets.{one_if}
+use Rattle.base.specs.Sets.{one_if, count_below}
 use Rattle.base.proofs.Bools.{T_of, lt-or-le}
 use Rattle.base.proofs.Lists.{length-list_from, get_or-list_from, list_from-cong, part-take}
 use Rattle.base.proofs.Sets.{sum-zero, sum-suc, count-le, count-pos}
@@ -35,8 +38,29 @@ module _ (n : ℕ) (words : List ℕ) (i : ℕ) where
   unfolding multiplicity_of
   mult-pos regions q h t = count-pos regions (λ q. holds_in_region n words q i) q h (T_of (holds_in_region n words q i) t)
 
--- what a loop over the regions is proved from
-pub ruleset mult_steps = (mult-none, mult-next, mult-le)
+-- ---- how many numbers of a range a filter keeps
+
+one : (b : Bool) → cond b 1 0 ≡ one_if b
+one true = refl
+one false = refl
+
+-- of the first k numbers
+kept : (p : ℕ → Bool) (n k : ℕ) → k ≤ n → length (filter p (take k (range_with_len 0 n))) ≡ count_below k p
+kept p n zero h = sym (sum-zero (λ i. one_if (p i)))
+kept p n (suc k) h =
+    let next : suc k ≡ k + 1 = omega arith in
+    let at : get_or (range_with_len 0 n) k 0 ≡ k = get_or-range_with_len 0 n k 0 (omega arith) ∙ zero-add k in
+    ap (λ (j : ℕ). length (filter p (take j (range_with_len 0 n)))) next
+    ∙ length-filter_more p (range_with_len 0 n) k 0 (omega (arith, length-range_with_len 0 n))
+    ∙ ap₂ (λ (x y : ℕ). x + cond (p y) 1 0) (kept p n k (omega arith)) at
+    ∙ ap (λ (x : ℕ). count_below k p + x) (one (p k))
+    ∙ sym (sum-suc k (λ i. one_if (p i)))
+    ∙ ap (λ (j : ℕ). count_below j p) (sym next)
+
+pub kept-range : (p : ℕ → Bool) (n : ℕ) → length (filter p (range_with_len 0 n)) ≡ count_below n p
+kept-range p n =
+    ap (λ (l : List ℕ). length (filter p l)) (sym (take-length (range_with_len 0 n)) ∙ ap (λ (j : ℕ). take j (range_with_len 0 n)) (length-range_with_len 0 n))
+    ∙ kept p n n (omega arith)
 
 -- ---- a list of multiplicities
 

@@ -2,21 +2,24 @@
 use mathlib.Core.Path.{◌≡◌, sym, ap, ◌∙◌, subst}
 use Rattle.std.specs.Prelude.{Ok}
 use mathlib.Core.Logic.{◌⊎◌, inl, inr, ◌≢◌}
-use mathlib.Core.Bool.{true, false, not}
+use mathlib.Core.Bool.{Bool, true, not}
 use mathlib.Core.List.{List}
 use Prim.Native.Nat.{ℕ, ◌+◌, ◌-◌, ◌*◌, ◌/◌, ◌%◌, ◌^◌, ◌≤◌, ◌<◌}
 use native.Mathlib.Omega.{arith}
-use native.Mathlib.Nat.{mul-le-mul_right}
-use borrow.Author.Tests.{leb-true, ltb-true}
+use native.Mathlib.Nat.{mul-le-mul_right, zero-add}
+use borrow.Author.Tests.{leb-true, ltb-true, eqb-true}
+use Rattle.std.proofs.Common.{eq-eqb}
+use Rattle.std.specs.List.{list_all, range_with_len}
+use Rattle.std.proofs.lemmas.List.FromFn.{length-range_with_len, get_or-range_with_len}
 use lib.Bits.{bit_and}
 use lib.Dec.{eqb}
 use lib.ListN.{length, get_or, take, drop, length-take, length-drop, get_or-eq_default}
 use lib.Seq.{length-slice}
 use Rattle.base.specs.Checks.{side_limit}
 use Rattle.base.specs.Sets.{every_below}
-use Rattle.base.proofs.Bools.{T_true, T_false, T_of, not-T-of, lt-or-le}
+use Rattle.base.proofs.Bools.{bool-ext, T_true, T_of, not-T-of, lt-or-le}
 use Rattle.base.proofs.Checks.{passed, length-passed, both-passed}
-use Rattle.base.proofs.Lists.{get_or-slice, part_slice}
+use Rattle.base.proofs.Lists.{every-at, every-all, get_or-slice, part_slice}
 use Rattle.base.proofs.Sets.{every-i, every-e}
 use Rattle.mask.specs.Mask.{words_needed, clean}
 use Rattle.mask.proofs.Masks.{mask-of}
@@ -58,6 +61,10 @@ module _ (n : ℕ) (words : List ℕ) (q : ℕ) where
 
 -- ---- the bits past the nodes
 
+-- the last word of region q, of `each` words, has no bit past the nodes
+abbrev pub last_none : ℕ → ℕ → List ℕ → ℕ → Bool
+last_none each n words q = eqb (get_or words (q * each + (each - 1)) 0 / 2 ^ (n % 64)) 0
+
 module _ (n regions : ℕ) (words : List ℕ) (flat : length words ≡ regions * words_needed n) where
   region_long : (q : ℕ) → q < regions → length (region_at n words q) ≡ words_needed n
   region_long q h = region-length n words q (omega (arith, part_in regions q (words_needed n) h, flat))
@@ -76,15 +83,35 @@ module _ (n regions : ℕ) (words : List ℕ) (flat : length words ≡ regions *
     pub clean-next : get_or words (q * words_needed n + (words_needed n - 1)) 0 / 2 ^ (n % 64) ≡ 0 → clean n (region_at n words q) ≡ true
     clean-next z = clean-none n (region_at n words q) (region_long q h) some (ap (λ (x : ℕ). x / 2 ^ (n % 64)) last_word ∙ z)
 
-    -- one region's last word says no
-    pub all-stop : get_or words (q * words_needed n + (words_needed n - 1)) 0 < 2 ^ 64 → get_or words (q * words_needed n + (words_needed n - 1)) 0 / 2 ^ (n % 64) ≢ 0
-        → false ≡ every_below regions (λ q. clean n (region_at n words q))
-    all-stop fits z =
-        sym
-        (T_false (every_below regions (λ q. clean n (region_at n words q)))
-        (λ t. not-T-of (clean n (region_at n words q))
-        (clean-some n (region_at n words q) (region_long q h) some (subst (λ (x : ℕ). x < 2 ^ 64) (sym last_word) fits) (λ e. z (sym (ap (λ (x : ℕ). x / 2 ^ (n % 64)) last_word) ∙ e)))
-        (every-e regions (λ q. clean n (region_at n words q)) t q h)))
+  -- all regions' last words, one after the other
+  pub all-last : n % 64 ≢ 0 → ((w : ℕ) → get_or words w 0 < 2 ^ 64) → list_all (last_none (words_needed n) n words) (range_with_len 0 regions) ≡ every_below regions (λ q. clean n (region_at n words q))
+  all-last some fits =
+      bool-ext (list_all (last_none (words_needed n) n words) numbers) (every_below regions (λ q. clean n (region_at n words q)))
+      (λ t. every-i regions (λ q. clean n (region_at n words q)) (λ q h. T_of _ (clean-next q h some (eqb-true _ _ (ap (last_none (words_needed n) n words) (sym (at q h)) ∙ every-at (last_none (words_needed n) n words) 0 numbers q (T_true _ t) (omega (arith, long)))))))
+      (λ u. T_of _ (every-all (last_none (words_needed n) n words) 0 numbers (λ q l. let h : q < regions = omega (arith, long) in ap (last_none (words_needed n) n words) (at q h) ∙ of-clean q h (T_true _ (every-e regions (λ q. clean n (region_at n words q)) u q h)))))
+    where
+      numbers : List ℕ
+      numbers = range_with_len 0 regions
+
+      at : (q : ℕ) → q < regions → get_or numbers q 0 ≡ q
+      at q h = get_or-range_with_len 0 regions q 0 h ∙ zero-add q
+
+      long : length numbers ≡ regions
+      long = length-range_with_len 0 regions
+
+      of-clean : (q : ℕ) → q < regions → clean n (region_at n words q) ≡ true → last_none (words_needed n) n words q ≡ true
+      of-clean q h t = go (lt-or-le x 1)
+        where
+          x : ℕ
+          x = get_or words (q * words_needed n + (words_needed n - 1)) 0 / 2 ^ (n % 64)
+
+          go : (x < 1) ⊎ (1 ≤ x) → eqb x 0 ≡ true
+          go (inl l) = eq-eqb x 0 (omega arith)
+          go (inr l) =
+              absurd
+              (not-T-of (clean n (region_at n words q))
+              (clean-some n (region_at n words q) (region_long q h) some (subst (λ (y : ℕ). y < 2 ^ 64) (sym (last_word q h some)) (fits _)) (λ e. absurd (omega (arith, ap (λ (y : ℕ). y / 2 ^ (n % 64)) (last_word q h some), e))))
+              (T_of _ t))
 
 -- ---- acceptance
 

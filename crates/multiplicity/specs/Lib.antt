@@ -1,1 +1,2 @@
 pub mod Multiplicity
+pub mod Views

@@ -1,19 +1,69 @@
 // The work on regions in a flat list, for callers that have checked: no part of the API.
-ghost use Rattle.std.specs.Prelude.{◌≡◌, ℕ, ◌+◌, ◌*◌, ◌^◌, ◌<◌, ◌≤◌, length, get_or};
+ghost use Rattle.std.specs.Prelude.{◌≡◌, Err, IfOk, IfErr, ℕ, ◌+◌, ◌*◌, ◌<◌, ◌≤◌, length, get_or};
 ghost use Rattle.base.specs.Checks.{side_limit, region_limit};
 ghost use Rattle.base.specs.Lists.{list_from};
 ghost use Rattle.base.specs.Sets.{every_below, one_if};
 ghost use Rattle.mask.specs.Mask.{words_needed, clean};
 ghost use Rattle.mask.specs.Views.{nodes};
-ghost use Rattle.multiplicity.specs.Multiplicity.{region_at, holds_in_region, multiplicity_of, multiplicity_stats, Regions};
+ghost use Rattle.multiplicity.specs.Multiplicity.{region_at, regions_check, multiplicity_stats, Regions as AreRegions};
 
-use crate::AbtmRegionMultiplicityStats;
+use crate::{AbtmRegionMultiplicityStats, FlatRegions};
+use base::Refusal;
 use mask::inner::Mask;
 use topology::inner::ratio;
 use word::AbtmTopologyWord;
+use word::inner::Bits;
+
+// Regions that were accepted.
+#[derive(Clone, Copy)]
+pub struct Regions<'a> {
+    pub node_count: usize,
+    pub region_count: usize,
+    pub words: &'a [u64],
+    ghost accepted: { AreRegions node_count region_count words.now },
+}
+
+impl<'a> FlatRegions<'a> {
+    ghost use Rattle.multiplicity.specs.Views.{check_flat, AcceptedFrom};
+
+    pub fn accept(self) -> Result<Regions<'a>, Refusal>
+        ensures refused { IfErr result (λ e. check_flat self.entry ≡ Err e) }
+        ensures accepted { IfOk result (λ r. (check_flat self.entry ≡ Ok tt) × AcceptedFrom self.entry r) }
+    {
+        check_regions(self.node_count, self.region_count, self.words)?;
+        Ok(Regions {
+            node_count: self.node_count,
+            region_count: self.region_count,
+            words: self.words,
+        })
+    }
+}
+
+// The limits, the length of the flat list, the bits past the nodes. It takes the three one by one: of a list in a struct that is not accepted it is
+// not known that its words have 64 bits.
+#[tactic(auto, using(base::proofs::Checks::checks), unfolding(crate::specs::Multiplicity::regions_check))]
+fn check_regions(node_count: usize, region_count: usize, words: &[u64]) -> Result<(), Refusal>
+    ensures value { result ≡ regions_check node_count region_count words.now }
+    ensures accepted { IfOk result (λ t. AreRegions node_count region_count words.now) }
+{
+    if node_count > base::SIDE_LIMIT {
+        return Err(Refusal::OverLimit);
+    }
+    if region_count > base::REGION_LIMIT {
+        return Err(Refusal::OverLimit);
+    }
+    let need = region_count * mask::inner::words_for(node_count);
+    if words.len() != need {
+        return Err(Refusal::wrong_length(need, words.len()));
+    }
+    if !all_clean(node_count, region_count, words) {
+        return Err(Refusal::BitPastLength);
+    }
+    Ok(())
+}
 
 // Whether no region has a bit at or past the nodes: its last word alone can.
-pub fn all_clean(node_count: usize, region_count: usize, words: &[u64]) -> bool
+fn all_clean(node_count: usize, region_count: usize, words: &[u64]) -> bool
     requires { (node_count ≤ side_limit) × (region_count ≤ region_limit) × (length words.now ≡ region_count * words_needed node_count) }
     ensures { result ≡ every_below region_count (λ q. clean node_count (region_at node_count words.now q)) }
 {
@@ -22,45 +72,20 @@ pub fn all_clean(node_count: usize, region_count: usize, words: &[u64]) -> bool
         return true;
     }
     let each = mask::inner::words_for(node_count);
-    for q in 0..region_count {
-        if words[q * each + (each - 1)] >> spare != 0 {
-            return false;
-        }
-    }
-    true
+    (0..region_count).all(|q| words[q * each + (each - 1)] >> spare == 0)
 }
 
-// One more for each member of the mask, a word's set bits from the lowest on.
+// One more for each member of the mask, a word's set bits from the lowest on: `members` would find its word anew for each member.
 fn add_region(region: Mask, counts: &mut [u32])
     requires { (length counts.old ≡ region.len) × ((i : ℕ) → get_or counts.old i 0 < region_limit) }
     ensures { counts.new ≡ list_from (λ i. get_or counts.old i 0 + one_if (nodes region.entry i)) region.entry.len 0 }
 {
     for (w, word) in region.words.iter().enumerate() {
         let first = w * AbtmTopologyWord::BITS;
-        let mut bits = *word;
-        while bits != 0 {
-            let i = first + u64::trailing_zeros(bits) as usize;
+        for bit in Bits::of(*word) {
+            let i = first + bit as usize;
             counts[i] += 1;
-            bits = bits & (bits - 1);
         }
-    }
-}
-
-// Each node's multiplicity, on a list of as many counts as nodes.
-pub fn count_regions(node_count: usize, region_count: usize, words: &[u64], counts: &mut [u32])
-    requires { Regions node_count region_count words.now × (length counts.old ≡ node_count) }
-    ensures { counts.new ≡ list_from (multiplicity_of node_count region_count words.now) node_count 0 }
-{
-    counts.fill(0);
-    let each = mask::inner::words_for(node_count);
-    for q in 0..region_count {
-        add_region(
-            Mask {
-                len: node_count,
-                words: &words[q * each..(q + 1) * each],
-            },
-            counts,
-        );
     }
 }
 
@@ -101,33 +126,45 @@ pub fn tally(region_count: usize, counts: &[u32]) -> AbtmRegionMultiplicityStats
     }
 }
 
-// Whether a region holds a node.
-pub fn region_holds(
-    node_count: usize,
-    region_count: usize,
-    words: &[u64],
-    region: usize,
-    node: usize,
-) -> bool
-    requires { Regions node_count region_count words.now × (region < region_count) × (node < node_count) }
-    ensures { result ≡ holds_in_region node_count words.now region node }
-{
-    let each = mask::inner::words_for(node_count);
-    words[region * each + node / AbtmTopologyWord::BITS] & (1u64 << (node % AbtmTopologyWord::BITS))
-        != 0
-}
+impl Regions<'_> {
+    ghost use Rattle.multiplicity.specs.Views.{held, multiplicity_at};
 
-// How many regions hold a node.
-#[tactic(auto, using(crate::proofs::Counts::mult_steps))]
-pub fn multiplicity(node_count: usize, region_count: usize, words: &[u64], node: usize) -> u64
-    requires { Regions node_count region_count words.now × (node < node_count) }
-    ensures { result ≡ multiplicity_of node_count region_count words.now node }
-{
-    let mut m: u64 = 0;
-    for q in 0..region_count {
-        if region_holds(node_count, region_count, words, q, node) {
-            m += 1;
+    // Each node's multiplicity, on a list of as many counts as nodes. Not by `chunks`: of no nodes a region has no words, and there are no chunks of
+    // none.
+    pub fn count(self, counts: &mut [u32])
+        requires { length counts.old ≡ self.node_count }
+        ensures { counts.new ≡ list_from (multiplicity_at self.entry) self.entry.node_count 0 }
+    {
+        counts.fill(0);
+        let each = mask::inner::words_for(self.node_count);
+        for q in 0..self.region_count {
+            add_region(
+                Mask {
+                    len: self.node_count,
+                    words: &self.words[q * each..(q + 1) * each],
+                },
+                counts,
+            );
         }
     }
-    m
+
+    // Whether a region holds a node.
+    pub fn holds(self, region: usize, node: usize) -> bool
+        requires { (region < self.region_count) × (node < self.node_count) }
+        ensures { result ≡ held self.entry region node }
+    {
+        let each = mask::inner::words_for(self.node_count);
+        let word = self.words[region * each + node / AbtmTopologyWord::BITS];
+        word & (1u64 << (node % AbtmTopologyWord::BITS)) != 0
+    }
+
+    // How many regions hold a node.
+    pub fn multiplicity(self, node: usize) -> u64
+        requires { node < self.node_count }
+        ensures { result ≡ multiplicity_at self.entry node }
+    {
+        (0..self.region_count)
+            .filter(|q| self.holds(*q, node))
+            .count() as u64
+    }
 }

@@ -3,7 +3,7 @@
 #![tactic(auto)]
 
 ghost use Rattle.std.specs.Prelude.{◌≡◌};
-ghost use Rattle.multiplicity.specs.Multiplicity.{regions_check, multiplicity_check, multiplicity_answer, multiplicity_counts, weight_check, weight_answer};
+ghost use Rattle.multiplicity.specs.Multiplicity.{multiplicity_check, multiplicity_answer, multiplicity_counts, weight_answer};
 
 use base::Refusal;
 
@@ -24,97 +24,45 @@ pub struct AbtmRegionMultiplicityStats {
     pub overlap_fraction_on_covered: f64,
 }
 
-// The limits, the length of the flat list, the bits past the nodes.
-#[tactic(auto, using(base::proofs::Checks::checks), unfolding(crate::specs::Multiplicity::regions_check))]
-fn check_regions(node_count: usize, region_count: usize, words: &[u64]) -> Result<(), Refusal>
-    ensures { result ≡ regions_check node_count region_count words.now }
-{
-    if node_count > base::SIDE_LIMIT {
-        return Err(Refusal::OverLimit);
-    }
-    if region_count > base::REGION_LIMIT {
-        return Err(Refusal::OverLimit);
-    }
-    let need = region_count * mask::inner::words_for(node_count);
-    if words.len() != need {
-        return Err(Refusal::wrong_length(need, words.len()));
-    }
-    if !inner::all_clean(node_count, region_count, words) {
-        return Err(Refusal::BitPastLength);
-    }
-    Ok(())
+// Regions as a caller lends them: the words of one mask of all nodes after the other.
+#[derive(Clone, Copy)]
+pub struct FlatRegions<'a> {
+    pub node_count: usize,
+    pub region_count: usize,
+    pub words: &'a [u64],
 }
 
-#[tactic(auto, using(base::proofs::Checks::checks), unfolding(crate::specs::Multiplicity::multiplicity_check))]
-fn check_counts(
-    node_count: usize,
-    region_count: usize,
-    words: &[u64],
-    counts: &[u32],
-) -> Result<(), Refusal>
-    ensures { result ≡ multiplicity_check node_count region_count words.now counts.now }
-{
-    check_regions(node_count, region_count, words)?;
-    if node_count > counts.len() {
-        return Err(Refusal::ListTooShort);
-    }
-    Ok(())
-}
-
-// A count for each node.
+// A count for each node. The room is tested and the list cut here: a function for both would hand back a part that is written, and each contract
+// would say besides what becomes of the rest.
 pub fn region_multiplicity(
-    node_count: usize,
-    region_count: usize,
-    words: &[u64],
+    regions: FlatRegions,
     counts: &mut [u32],
 ) -> Result<AbtmRegionMultiplicityStats, Refusal>
-    ensures value { result ≡ multiplicity_answer (multiplicity_check node_count region_count words.now counts.old) node_count region_count words.now }
-    ensures counts_after { counts.new ≡ multiplicity_counts (multiplicity_check node_count region_count words.now counts.old) node_count region_count words.now counts.old }
+    ensures value { result ≡ multiplicity_answer (multiplicity_check regions.entry.node_count regions.entry.region_count regions.entry.words.now counts.old) regions.entry.node_count regions.entry.region_count regions.entry.words.now }
+    ensures counts_after { counts.new ≡ multiplicity_counts (multiplicity_check regions.entry.node_count regions.entry.region_count regions.entry.words.now counts.old) regions.entry.node_count regions.entry.region_count regions.entry.words.now counts.old }
 {
-    check_counts(node_count, region_count, words, counts)?;
-    inner::count_regions(node_count, region_count, words, &mut counts[..node_count]);
-    Ok(inner::tally(region_count, &counts[..node_count]))
-}
-
-#[tactic(auto, using(base::proofs::Checks::checks), unfolding(crate::specs::Multiplicity::weight_check))]
-fn check_weight(
-    node_count: usize,
-    region_count: usize,
-    words: &[u64],
-    region: u64,
-    node: u64,
-) -> Result<(), Refusal>
-    ensures { result ≡ weight_check node_count region_count words.now region node }
-{
-    check_regions(node_count, region_count, words)?;
-    if region >= region_count as u64 {
-        return Err(Refusal::OutOfRange);
+    let regions = regions.accept()?;
+    let need = regions.node_count;
+    if need > counts.len() {
+        return Err(Refusal::ListTooShort);
     }
-    if node >= node_count as u64 {
-        return Err(Refusal::OutOfRange);
-    }
-    Ok(())
+    regions.count(&mut counts[..need]);
+    Ok(inner::tally(regions.region_count, &counts[..need]))
 }
 
 // The region's share of the node in parts of 65,536.
-pub fn weight(
-    node_count: usize,
-    region_count: usize,
-    words: &[u64],
-    region: u64,
-    node: u64,
-) -> Result<u64, Refusal>
-    ensures { result ≡ weight_answer node_count region_count words.now region node }
+pub fn weight(regions: FlatRegions, region: u64, node: u64) -> Result<u64, Refusal>
+    ensures { result ≡ weight_answer regions.entry.node_count regions.entry.region_count regions.entry.words.now region node }
 {
-    check_weight(node_count, region_count, words, region, node)?;
-    if !inner::region_holds(
-        node_count,
-        region_count,
-        words,
-        region as usize,
-        node as usize,
-    ) {
+    let regions = regions.accept()?;
+    if region >= regions.region_count as u64 {
+        return Err(Refusal::OutOfRange);
+    }
+    if node >= regions.node_count as u64 {
+        return Err(Refusal::OutOfRange);
+    }
+    if !regions.holds(region as usize, node as usize) {
         return Ok(0);
     }
-    Ok(65536 / inner::multiplicity(node_count, region_count, words, node as usize))
+    Ok(65536 / regions.multiplicity(node as usize))
 }

@@ -26,7 +26,7 @@ use Rattle.pattern.specs.Steps.{ranks_of}
 use Rattle.pattern.proofs.Writing.{ranks_long, ranks_at}
 use Rattle.binding.specs.Steps.{has_pair}
 use Rattle.sources.specs.Sources.{entries_in, entries_of}
-use Rattle.sources.specs.Steps.{column_at, Local, pair_at, columns_in, inside_in, entries_at, ends_from, Put}
+use Rattle.sources.specs.Steps.{column_at, RisingColumns, pair_at, columns_in, inside_in, entries_at, ends_from, Put}
 use Rattle.sources.proofs.Inside.{put-none, put_same}
 use Rattle.numeric_plan.specs.Steps.{row_entries, Tables, Marked}
 use Rattle.numeric_plan.proofs.Binding.{row-sources}
@@ -142,7 +142,7 @@ module _ (n : ℕ) (region ranks nodes : List ℕ) (num : Tables n region ranks 
       ap (λ (i : ℕ). get_or nodes i 0) (number-at j h) ∙ num.nodes_at (number_of p (get_or C j 0)) (count-member n p (get_or C j 0) c.0 c.1) ∙ get_or-count n p (get_or C j 0) c.0 c.1
 
   module _ (last : ℕ) (all : last ≡ first + length (columns_of n (in_mask region) s r)) where
-    pub row-local : Local nodes lcols first last
+    pub row-local : RisingColumns nodes lcols first last
     row-local =
         record {
           order = omega arith;

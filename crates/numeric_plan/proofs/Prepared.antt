@@ -23,7 +23,7 @@ use Rattle.binding.specs.Steps.{sources_inside, counts_of}
 use Rattle.binding.specs.declared.Counts.{Counts}
 use Rattle.gather.specs.Plan.{plan_sources}
 use Rattle.numeric_plan.specs.Plan.{pair_entries, plan_room, plan_stats}
-use Rattle.numeric_plan.specs.Steps.{plan_room_for, Small, stats_of}
+use Rattle.numeric_plan.specs.Steps.{plan_room_for, Small, plan_by_counts}
 use Rattle.numeric_plan.specs.declared.AbtmLocalNumericPlanStats.{AbtmLocalNumericPlanStats}
 use Rattle.numeric_plan.proofs.Binding.{sources-few}
 use Rattle.numeric_plan.proofs.Pairs.{lists_length, sources-length}
@@ -74,9 +74,9 @@ module _ (n : ℕ) (p : ℕ → Bool) (s : ℕ → ℕ → Bool) (ptr cols : Lis
           sourced = pairs-few n p s ptr cols m accepted;
         })
 
-    pub stats_are : (stats : AbtmLocalNumericPlanStats) → stats ≡ stats_of counts → stats ≡ plan_stats n p (pair_entries n p s ptr cols)
+    pub stats_are : (stats : AbtmLocalNumericPlanStats) → stats ≡ plan_by_counts counts → stats ≡ plan_stats n p (pair_entries n p s ptr cols)
     stats_are stats h =
-        h ∙ ap stats_of e
+        h ∙ ap plan_by_counts e
         ∙ ap₂ (λ (x y : ℕ). put x y (eqb (sources_inside n p ptr cols) (pairs_inside n p s))) (sym (lists_length n p s ptr cols)) (sym (sources-length n p s ptr cols m accepted))
         ∙ ap (put (length lists) (length (plan_sources lists))) (plan-direct n p s ptr cols m accepted)
       where

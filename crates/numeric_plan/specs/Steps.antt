@@ -49,8 +49,8 @@ pub record Small (c : Counts) : Type 0 where
   pub sourced : c.pairs ≤ c.sources
 
 -- direct where there are as many sources as pairs
-abbrev pub stats_of : Counts → AbtmLocalNumericPlanStats
-stats_of c =
+abbrev pub plan_by_counts : Counts → AbtmLocalNumericPlanStats
+plan_by_counts c =
     record {
       local_nodes = c.members;
       local_nnz = c.pairs;

@@ -3,7 +3,7 @@ use Rattle.std.specs.Prelude.{List, ℕ}
 use Rattle.base.specs.Checks.{Check}
 use Rattle.csr32.specs.declared.Csr32Matrix.{Csr32Matrix}
 use Rattle.csr32.specs.Matrix.{stored}
-use Rattle.csr32.specs.Views.{check_matrix, entries}
+use Rattle.csr32.specs.Views.{check_matrix}
 use Rattle.mask.specs.declared.DofMask.{DofMask}
 use Rattle.mask.specs.Mask.{in_mask}
 use Rattle.mask.specs.Views.{nodes}
@@ -11,18 +11,23 @@ use Rattle.side.specs.Views.{holds, pairs}
 use Rattle.dual_topology.specs.declared.AbtmDualTopology.{AbtmDualTopology}
 use Rattle.dual_topology.specs.Views.{check_topology}
 use Rattle.binding.specs.declared.inner.System.{System}
-use Rattle.binding.specs.Binding.{binding_check}
+use Rattle.binding.specs.Views.{check_binding}
+use Rattle.pattern.specs.Pattern.{columns_of}
+use Rattle.numeric_plan.specs.Steps.{row_entries}
 use Rattle.numeric_plan.specs.Plan.{pair_entries, plan_inputs, plan_check}
 
 -- ---- an accepted system
 
--- 23 and 24 by local row
-abbrev pub check_binding : System → Check
-check_binding s = binding_check s.local.region.len (nodes s.local.region) (pairs s.local.rows) (entries s.matrix)
-
 -- the entries of each pair
 abbrev pub lists : System → List (List ℕ)
 lists s = pair_entries s.local.region.len (nodes s.local.region) (pairs s.local.rows) s.matrix.row_ptr.now s.matrix.col_idx.now
+
+-- the columns of row r that are inside, and the entries of its pair j
+abbrev pub columns : System → ℕ → List ℕ
+columns s r = columns_of s.local.region.len (nodes s.local.region) (pairs s.local.rows) r
+
+abbrev pub entries : System → ℕ → ℕ → List ℕ
+entries s r = row_entries s.local.region.len (nodes s.local.region) (pairs s.local.rows) s.matrix.row_ptr.now s.matrix.col_idx.now r
 
 -- then 25
 abbrev pub check_lists : System → List ℕ → List ℕ → List ℕ → List ℕ → List ℕ → Check

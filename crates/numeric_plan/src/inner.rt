@@ -1,25 +1,29 @@
 // A region's plan, its room, lists and statistics, for callers that have checked: no part of the API.
-ghost use Rattle.std.specs.Prelude.{◌≡◌, map, ℕ, ◌+◌, ◌<◌, ◌≤◌, T, Ok, length, replicate};
+ghost use Rattle.std.specs.Prelude.{◌≡◌, IfOk, ◌+◌, ◌<◌, ◌≤◌, T, Ok, length, replicate};
 ghost use Rattle.base.specs.Lists.{join_below, over, placed};
-ghost use Rattle.base.specs.Sets.{count_below, members_below};
+ghost use Rattle.base.specs.Sets.{members_below};
 ghost use Rattle.mask.specs.Mask.{words_needed};
 ghost use Rattle.mask.specs.Views.{nodes};
 ghost use Rattle.side.specs.Views.{pairs};
-ghost use Rattle.pattern.specs.Pattern.{number_of, columns_of, pattern_ptr, pattern_columns, pairs_inside, nodes_left, ptr_left, columns_left};
+ghost use Rattle.pattern.specs.Pattern.{pattern_ptr, pattern_columns, nodes_left, ptr_left, columns_left};
 ghost use Rattle.sources.specs.Steps.{ends_from, Put};
 ghost use Rattle.gather.specs.Plan.{plan_sources, plan_ptr};
-ghost use Rattle.numeric_plan.specs.Plan.{plan_answer, source_ptr_left, sources_left};
-ghost use Rattle.numeric_plan.specs.Steps.{row_entries, Tables, RowRoom, Marked, plan_room_for, Small, stats_of};
-ghost use Rattle.numeric_plan.specs.Views.{check_binding, check_lists, lists};
+ghost use Rattle.numeric_plan.specs.Plan.{sides_check, plan_answer, source_ptr_left, sources_left};
+ghost use Rattle.numeric_plan.specs.Steps.{Tables, RowRoom, Marked, plan_room_for, Small, plan_by_counts};
+ghost use Rattle.numeric_plan.specs.Views.{check_lists, columns, entries, lists};
+ghost use Rattle.binding.specs.Views.{check_binding};
+ghost use Rattle.pattern.specs.Views.{size, kept, numbers};
 
 use crate::AbtmLocalNumericPlanStats;
 use base::Refusal;
 use binding::Counts;
 use binding::inner::System;
+use csr32::inner::Matrix;
 use mask::inner::Mask;
 use pattern::inner::Ranked;
+use side::inner::Side;
 use sources::RowEnd;
-use sources::inner::{Pairs, Row, Taken};
+use sources::inner::{Pairs, Row, RowSources};
 
 // A system whose rows bind, with the mask of its rows that have a pair inside and how many sources its plan has.
 #[derive(Clone, Copy)]
@@ -33,7 +37,7 @@ pub struct Bound<'a, 'p> {
     ghost marked: { Marked system.local.region.len system.local.region.words.now paired.words.now (pairs system.local.rows) },
 }
 
-// The same with the region's tables: the members before each of its words, and the members in rising order.
+// A bound system with the region's tables: the members before each of its words, and the members in rising order.
 #[derive(Clone, Copy)]
 struct Numbered<'a, 'p, 't> {
     bound: Bound<'a, 'p>,
@@ -43,7 +47,8 @@ struct Numbered<'a, 'p, 't> {
 }
 
 impl Bound<'_, '_> {
-    // The plan on lists that reach their needed lengths, with room for the table of ranks.
+    // The plan on lists that reach their needed lengths, with room for the table of ranks. The lists that are written are handed in one by one, here and
+    // below: each has its equation, and in a struct behind `&mut` each contract would say besides that the references stay.
     fn write_ranked(
         self,
         global_nodes: &mut [u32],
@@ -53,7 +58,7 @@ impl Bound<'_, '_> {
         sources: &mut [u32],
         ranks: &mut [u32],
     )
-        requires { (count_below self.system.local.region.len (nodes self.system.local.region) ≤ length global_nodes.old) × (count_below self.system.local.region.len (nodes self.system.local.region) < length local_ptr.old) × (pairs_inside self.system.local.region.len (nodes self.system.local.region) (pairs self.system.local.rows) ≤ length local_cols.old) × (pairs_inside self.system.local.region.len (nodes self.system.local.region) (pairs self.system.local.rows) < length source_ptr.old) × (self.terms ≤ length sources.old) × (words_needed self.system.local.region.len ≤ length ranks.old) }
+        requires { (size self.system.local ≤ length global_nodes.old) × (size self.system.local < length local_ptr.old) × (kept self.system.local ≤ length local_cols.old) × (kept self.system.local < length source_ptr.old) × (self.terms ≤ length sources.old) × (words_needed self.system.local.region.len ≤ length ranks.old) }
         ensures members { global_nodes.new ≡ over (members_below self.entry.system.local.region.len (nodes self.entry.system.local.region)) global_nodes.old }
         ensures pointers { local_ptr.new ≡ over (pattern_ptr self.entry.system.local.region.len (nodes self.entry.system.local.region) (pairs self.entry.system.local.rows)) local_ptr.old }
         ensures columns { local_cols.new ≡ over (pattern_columns self.entry.system.local.region.len (nodes self.entry.system.local.region) (pairs self.entry.system.local.rows)) local_cols.old }
@@ -71,7 +76,7 @@ impl Bound<'_, '_> {
         .write_rows(members, local_ptr, local_cols, source_ptr, sources);
     }
 
-    // The same with a table of its own, an array as in `pattern::inner::Local::write`.
+    // The plan with a table of ranks of its own, an array as in `pattern::inner::Local::write`: no heap.
     pub fn write(
         self,
         global_nodes: &mut [u32],
@@ -80,7 +85,7 @@ impl Bound<'_, '_> {
         source_ptr: &mut [u32],
         sources: &mut [u32],
     )
-        requires { (count_below self.system.local.region.len (nodes self.system.local.region) ≤ length global_nodes.old) × (count_below self.system.local.region.len (nodes self.system.local.region) < length local_ptr.old) × (pairs_inside self.system.local.region.len (nodes self.system.local.region) (pairs self.system.local.rows) ≤ length local_cols.old) × (pairs_inside self.system.local.region.len (nodes self.system.local.region) (pairs self.system.local.rows) < length source_ptr.old) × (self.terms ≤ length sources.old) }
+        requires { (size self.system.local ≤ length global_nodes.old) × (size self.system.local < length local_ptr.old) × (kept self.system.local ≤ length local_cols.old) × (kept self.system.local < length source_ptr.old) × (self.terms ≤ length sources.old) }
         ensures members { global_nodes.new ≡ over (members_below self.entry.system.local.region.len (nodes self.entry.system.local.region)) global_nodes.old }
         ensures pointers { local_ptr.new ≡ over (pattern_ptr self.entry.system.local.region.len (nodes self.entry.system.local.region) (pairs self.entry.system.local.rows)) local_ptr.old }
         ensures columns { local_cols.new ≡ over (pattern_columns self.entry.system.local.region.len (nodes self.entry.system.local.region) (pairs self.entry.system.local.rows)) local_cols.old }
@@ -124,11 +129,11 @@ impl Numbered<'_, '_, '_> {
         sources: &mut [u32],
         at: usize,
     ) -> RowEnd
-        requires { (r < self.bound.system.local.region.len) × T (nodes self.bound.system.local.region r) × RowRoom (columns_of self.bound.system.local.region.len (nodes self.bound.system.local.region) (pairs self.bound.system.local.rows) r) (row_entries self.bound.system.local.region.len (nodes self.bound.system.local.region) (pairs self.bound.system.local.rows) self.bound.system.matrix.row_ptr.now self.bound.system.matrix.col_idx.now r) first at self.bound.terms local_cols.old source_ptr.old sources.old }
-        ensures pair_value { (result.pair ≡ first + length (columns_of self.entry.bound.system.local.region.len (nodes self.entry.bound.system.local.region) (pairs self.entry.bound.system.local.rows) r)) × (result.source ≡ at + length (join_below (length (columns_of self.entry.bound.system.local.region.len (nodes self.entry.bound.system.local.region) (pairs self.entry.bound.system.local.rows) r)) (row_entries self.entry.bound.system.local.region.len (nodes self.entry.bound.system.local.region) (pairs self.entry.bound.system.local.rows) self.entry.bound.system.matrix.row_ptr.now self.entry.bound.system.matrix.col_idx.now r))) }
-        ensures columns { local_cols.new ≡ placed first (map (number_of (nodes self.entry.bound.system.local.region)) (columns_of self.entry.bound.system.local.region.len (nodes self.entry.bound.system.local.region) (pairs self.entry.bound.system.local.rows) r)) local_cols.old }
-        ensures starts { source_ptr.new ≡ placed (first + 1) (ends_from at (length (columns_of self.entry.bound.system.local.region.len (nodes self.entry.bound.system.local.region) (pairs self.entry.bound.system.local.rows) r)) (row_entries self.entry.bound.system.local.region.len (nodes self.entry.bound.system.local.region) (pairs self.entry.bound.system.local.rows) self.entry.bound.system.matrix.row_ptr.now self.entry.bound.system.matrix.col_idx.now r)) source_ptr.old }
-        ensures entries { Put at self.entry.bound.terms (join_below (length (columns_of self.entry.bound.system.local.region.len (nodes self.entry.bound.system.local.region) (pairs self.entry.bound.system.local.rows) r)) (row_entries self.entry.bound.system.local.region.len (nodes self.entry.bound.system.local.region) (pairs self.entry.bound.system.local.rows) self.entry.bound.system.matrix.row_ptr.now self.entry.bound.system.matrix.col_idx.now r)) sources.old sources.new }
+        requires { (r < self.bound.system.local.region.len) × T (nodes self.bound.system.local.region r) × RowRoom (columns self.bound.system r) (entries self.bound.system r) first at self.bound.terms local_cols.old source_ptr.old sources.old }
+        ensures pair_value { (result.pair ≡ first + length (columns self.entry.bound.system r)) × (result.source ≡ at + length (join_below (length (columns self.entry.bound.system r)) (entries self.entry.bound.system r))) }
+        ensures columns { local_cols.new ≡ placed first (numbers self.entry.bound.system.local r) local_cols.old }
+        ensures starts { source_ptr.new ≡ placed (first + 1) (ends_from at (length (columns self.entry.bound.system r)) (entries self.entry.bound.system r)) source_ptr.old }
+        ensures entries { Put at self.entry.bound.terms (join_below (length (columns self.entry.bound.system r)) (entries self.entry.bound.system r)) sources.old sources.new }
     {
         if !self.bound.paired.holds(r) {
             return RowEnd {
@@ -148,7 +153,7 @@ impl Numbered<'_, '_, '_> {
             ranks: self.ranks,
         };
         let next = row.take_inside(local.region, sources, at, self.bound.terms);
-        let taken = Taken {
+        let taken = RowSources {
             row,
             ranked,
             sources,
@@ -173,7 +178,8 @@ impl Numbered<'_, '_, '_> {
         }
     }
 
-    // All rows.
+    // The rows of the first `members` nodes, which are all of them, each from where the one before it ends: at pointer k + 1 for member k, since the list
+    // of pointers begins with a zero.
     fn write_rows(
         self,
         members: usize,
@@ -182,7 +188,7 @@ impl Numbered<'_, '_, '_> {
         source_ptr: &mut [u32],
         sources: &mut [u32],
     )
-        requires { (members ≡ count_below self.bound.system.local.region.len (nodes self.bound.system.local.region)) × (members < length local_ptr.old) × (pairs_inside self.bound.system.local.region.len (nodes self.bound.system.local.region) (pairs self.bound.system.local.rows) ≤ length local_cols.old) × (pairs_inside self.bound.system.local.region.len (nodes self.bound.system.local.region) (pairs self.bound.system.local.rows) < length source_ptr.old) × (self.bound.terms ≤ length sources.old) }
+        requires { (members ≡ size self.bound.system.local) × (members < length local_ptr.old) × (kept self.bound.system.local ≤ length local_cols.old) × (kept self.bound.system.local < length source_ptr.old) × (self.bound.terms ≤ length sources.old) }
         ensures pointers { local_ptr.new ≡ over (pattern_ptr self.entry.bound.system.local.region.len (nodes self.entry.bound.system.local.region) (pairs self.entry.bound.system.local.rows)) local_ptr.old }
         ensures columns { local_cols.new ≡ over (pattern_columns self.entry.bound.system.local.region.len (nodes self.entry.bound.system.local.region) (pairs self.entry.bound.system.local.rows)) local_cols.old }
         ensures starts { source_ptr.new ≡ over (plan_ptr (lists self.entry.bound.system)) source_ptr.old }
@@ -192,9 +198,9 @@ impl Numbered<'_, '_, '_> {
         source_ptr[0] = 0;
         let mut pair: usize = 0;
         let mut source: usize = 0;
-        for k in 0..members {
+        for (k, node) in self.nodes[..members].iter().enumerate() {
             let end = self.write_row(
-                self.nodes[k] as usize,
+                *node as usize,
                 local_cols,
                 pair,
                 source_ptr,
@@ -208,7 +214,22 @@ impl Numbered<'_, '_, '_> {
     }
 }
 
-// The lengths of the lists.
+// The rows of a topology against a matrix.
+#[tactic(auto, using(base::proofs::Checks::checks), unfolding(crate::specs::Plan::sides_check))]
+pub fn check_sides(rows: Side, matrix: Matrix) -> Result<(), Refusal>
+    ensures value { result ≡ sides_check rows.entry.nrows rows.entry.ncols matrix.entry.nrows matrix.entry.ncols }
+    ensures alike { IfOk result (λ t. (rows.entry.nrows ≡ matrix.entry.nrows) × (rows.entry.ncols ≡ matrix.entry.ncols)) }
+{
+    if rows.nrows != matrix.nrows {
+        return Err(Refusal::SidesDiffer);
+    }
+    if rows.ncols != matrix.ncols {
+        return Err(Refusal::SidesDiffer);
+    }
+    Ok(())
+}
+
+// The lengths of the lists: numbers, as in `pattern::inner::check_room`.
 #[tactic(auto, using(base::proofs::Checks::checks), unfolding(crate::specs::Steps::plan_room_for))]
 pub fn check_room(
     counts: Counts,
@@ -233,7 +254,7 @@ pub fn check_room(
 // With no pair without a source, as many sources as pairs are one each.
 pub fn stats(counts: Counts) -> AbtmLocalNumericPlanStats
     requires { Small counts }
-    ensures { result ≡ stats_of counts }
+    ensures { result ≡ plan_by_counts counts }
 {
     AbtmLocalNumericPlanStats {
         local_nodes: counts.members as u32,
@@ -291,7 +312,7 @@ fn prepare_marked(
     Ok(stats(counts))
 }
 
-// The same with scratch of its own, small for a small side, as in `Bound::write`.
+// The plan with scratch of its own, an array: small for a small side, as in `Bound::write`.
 pub fn prepare(
     system: System,
     global_nodes: &mut [u32],

@@ -1,25 +1,19 @@
 // The numeric plan of a region, region.rs of the Rust: for each pair of the local pattern its entries in stored order, as they stand in the matrix.
 #![tactic(auto)]
 
-ghost use Rattle.std.specs.Prelude.{◌≡◌, IfOk};
-ghost use Rattle.base.specs.Checks.{◌then◌};
-ghost use Rattle.mask.specs.Mask.{in_mask, IsMask};
-ghost use Rattle.side.specs.Check.{IsSide};
+ghost use Rattle.std.specs.Prelude.{◌≡◌};
+ghost use Rattle.mask.specs.Mask.{in_mask};
 ghost use Rattle.side.specs.Views.{holds};
-ghost use Rattle.dual_topology.specs.Views.{check_topology};
-ghost use Rattle.pattern.specs.Pattern.{region_check, nodes_left, ptr_left, columns_left};
-ghost use Rattle.numeric_plan.specs.Plan.{sides_check, plan_answer, source_ptr_left, sources_left};
+ghost use Rattle.pattern.specs.Pattern.{nodes_left, ptr_left, columns_left};
+ghost use Rattle.numeric_plan.specs.Plan.{plan_answer, source_ptr_left, sources_left};
 ghost use Rattle.numeric_plan.specs.Views.{lent_lists, check_plan};
 
 use base::Refusal;
 use binding::inner::System;
 use csr32::Csr32Matrix;
-use csr32::inner::Matrix;
 use dual_topology::AbtmDualTopology;
 use mask::DofMask;
-use mask::inner::Mask;
 use pattern::inner::Local;
-use side::inner::Side;
 
 pub mod inner;
 
@@ -32,29 +26,6 @@ pub struct AbtmLocalNumericPlanStats {
     pub duplicate_source_terms: u32,
     pub direct_source_map: bool,
     pub plan_bytes: u32,
-}
-
-// The topology, its sides against the matrix's, its shape, the mask.
-#[tactic(auto, using(base::proofs::Checks::checks), unfolding(crate::specs::Plan::sides_check, pattern::specs::Pattern::region_check))]
-fn check_region(
-    topology: AbtmDualTopology,
-    matrix: Csr32Matrix,
-    region: DofMask,
-) -> Result<(), Refusal>
-    ensures value { result ≡ region_check (check_topology topology.entry then sides_check topology.entry.rows.nrows topology.entry.rows.ncols matrix.entry.nrows matrix.entry.ncols) topology.entry.rows.nrows topology.entry.rows.ncols region.entry.len region.entry.words.now }
-    ensures accepted { IfOk result (λ t. IsSide topology.entry.rows.nrows topology.entry.rows.nrows topology.entry.rows.row_word_ptr.now topology.entry.rows.word_indices.now topology.entry.rows.masks.now × IsMask topology.entry.rows.nrows region.entry.words.now × (topology.entry.rows.nrows ≡ matrix.entry.nrows) × (topology.entry.rows.nrows ≡ matrix.entry.ncols)) }
-{
-    topology.validate()?;
-    if topology.rows.nrows != matrix.nrows {
-        return Err(Refusal::SidesDiffer);
-    }
-    if topology.rows.ncols != matrix.ncols {
-        return Err(Refusal::SidesDiffer);
-    }
-    if topology.rows.nrows != topology.rows.ncols {
-        return Err(Refusal::NotSquare);
-    }
-    mask::inner::check_length(topology.rows.nrows, region.len, region.words)
 }
 
 // The local pattern of the region, and for each of its pairs the entries of the matrix that it is summed from.
@@ -75,31 +46,12 @@ pub fn prepare_local_numeric_plan<'a>(
     ensures starts { source_ptr.new ≡ source_ptr_left (check_plan topology.entry matrix.entry region.entry global_nodes.old local_row_ptr.old local_col_idx.old source_ptr.old source_indices.old) (lent_lists topology.entry matrix.entry region.entry) source_ptr.old }
     ensures sources { source_indices.new ≡ sources_left (check_plan topology.entry matrix.entry region.entry global_nodes.old local_row_ptr.old local_col_idx.old source_ptr.old source_indices.old) (lent_lists topology.entry matrix.entry region.entry) source_indices.old }
 {
-    matrix.validate()?;
-    check_region(topology, matrix, region)?;
-    let n = topology.rows.nrows;
-    let rows = Side {
-        nrows: n,
-        ncols: n,
-        row_word_ptr: topology.rows.row_word_ptr,
-        word_indices: topology.rows.word_indices,
-        masks: topology.rows.masks,
-    };
-    let mask = Mask {
-        len: n,
-        words: region.words,
-    };
-    let accepted = Matrix {
-        nrows: n,
-        ncols: n,
-        row_ptr: matrix.row_ptr,
-        col_idx: matrix.col_idx,
-    };
+    let matrix = matrix.accept()?;
+    let topology = topology.accept()?;
+    inner::check_sides(topology.rows, matrix)?;
+    let local = Local::of(topology.rows, region)?;
     inner::prepare(
-        System {
-            local: Local { rows, region: mask },
-            matrix: accepted,
-        },
+        System { local, matrix },
         global_nodes,
         local_row_ptr,
         local_col_idx,

@@ -1,4 +1,4 @@
--- A region's members one after the other, by `next_member`: counts and sums over those that were met. Assumes nothing.
+-- A region's members one after the other: counts and sums over those that were met. Assumes nothing.
 use mathlib.Core.Path.{◌≡◌, sym, ap, ◌∙◌}
 use mathlib.Core.Bool.{Bool, cond}
 use mathlib.Core.List.{List}

@@ -1,24 +1,23 @@
 // The steps of a pattern, for callers that have checked: no part of the API.
-ghost use Rattle.std.specs.Prelude.{◌≡◌, IfOk, map, ℕ, ◌+◌, ◌*◌, ◌<◌, ◌≤◌, length, get_or};
+ghost use Rattle.std.specs.Prelude.{◌≡◌, Ok, Err, IfOk, IfErr, map, ℕ, ◌+◌, ◌*◌, ◌<◌, ◌≤◌, length, get_or};
 ghost use Rattle.base.specs.Checks.{side_limit};
 ghost use Rattle.base.specs.Lists.{over, placed};
 ghost use Rattle.base.specs.Sets.{count_below, members_below};
 ghost use Rattle.word.specs.Bits.{bit_at, set_bits};
-ghost use Rattle.mask.specs.Mask.{in_mask, words_needed, IsMask};
+ghost use Rattle.mask.specs.Mask.{in_mask, words_needed};
 ghost use Rattle.mask.specs.Views.{nodes};
 ghost use Rattle.side.specs.Check.{IsSide};
 ghost use Rattle.side.specs.Views.{pairs};
-ghost use Rattle.dual_topology.specs.Views.{check_topology};
-ghost use Rattle.pattern.specs.Pattern.{number_of, inside, columns_of, pattern_ptr, pattern_columns, pairs_inside, region_check};
-ghost use Rattle.pattern.specs.Steps.{kept_of_row, region_kept, room_for, ranks_of, Small, stats_of};
+ghost use Rattle.pattern.specs.Pattern.{number_of, inside, pattern_ptr, pattern_columns};
+ghost use Rattle.pattern.specs.Steps.{kept_of_row, region_kept, room_for, ranks_of, Small, stats_by_counts};
 
 use crate::{AbtmLocalSubmatrixPatternStats, RegionKept, RowKept};
 use base::Refusal;
-use dual_topology::AbtmDualTopology;
 use mask::DofMask;
 use mask::inner::Mask;
 use side::inner::Side;
 use word::AbtmTopologyWord;
+use word::inner::Bits;
 
 // A table of 256 words' ranks is enough up to this side.
 pub const SMALL_SIDE: usize = 16384;
@@ -31,7 +30,7 @@ pub struct Local<'a> {
     ghost square: { IsSide region.len region.len rows.row_word_ptr.now rows.word_indices.now rows.masks.now },
 }
 
-// The same with how many members come before each word of the region.
+// A region in its side, with how many members come before each of its words.
 #[derive(Clone, Copy)]
 pub struct Ranked<'a, 'r> {
     pub local: Local<'a>,
@@ -40,21 +39,27 @@ pub struct Ranked<'a, 'r> {
     ghost long: { words_needed local.region.len ≤ length ranks.now },
 }
 
-// The topology, its shape, the mask.
-#[tactic(auto, using(base::proofs::Checks::checks), unfolding(crate::specs::Pattern::region_check))]
-pub fn check_region(topology: AbtmDualTopology, region: DofMask) -> Result<(), Refusal>
-    ensures value { result ≡ region_check (check_topology topology.entry) topology.entry.rows.nrows topology.entry.rows.ncols region.entry.len region.entry.words.now }
-    ensures accepted { IfOk result (λ t. IsSide topology.entry.rows.nrows topology.entry.rows.nrows topology.entry.rows.row_word_ptr.now topology.entry.rows.word_indices.now topology.entry.rows.masks.now × IsMask topology.entry.rows.nrows region.entry.words.now) }
-{
-    topology.validate()?;
-    if topology.rows.nrows != topology.rows.ncols {
-        return Err(Refusal::NotSquare);
+impl<'a> Local<'a> {
+    ghost use Rattle.pattern.specs.Views.{check_local, AcceptedFrom};
+
+    // The shape of a topology whose rows these are, then the mask.
+    pub fn of(rows: Side<'a>, region: DofMask<'a>) -> Result<Local<'a>, Refusal>
+        ensures refused { IfErr result (λ e. check_local rows.entry region.entry ≡ Err e) }
+        ensures accepted { IfOk result (λ l. (check_local rows.entry region.entry ≡ Ok tt) × (rows.entry.ncols ≡ rows.entry.nrows) × AcceptedFrom rows.entry region.entry l) }
+    {
+        if rows.nrows != rows.ncols {
+            return Err(Refusal::NotSquare);
+        }
+        let region = region.accept_of(rows.nrows)?;
+        Ok(Local { rows, region })
     }
-    mask::inner::check_length(topology.rows.nrows, region.len, region.words)
 }
 
 impl Local<'_> {
-    // The words of row r: how many, their bits, and those inside the region.
+    ghost use Rattle.pattern.specs.Views.{size, kept};
+
+    // The words of row r: how many, their bits, and those inside the region. A row's words are a position in two lists, as document 01 has it, and so are
+    // walked by index, here and in `write_row`: `Side::row` is no plainer, because its two lists are walked by one number too.
     pub fn count_row(self, r: usize) -> RowKept
         requires { r < self.region.len }
         ensures { result ≡ kept_of_row self.entry.region.len (nodes self.entry.region) (pairs self.entry.rows) r }
@@ -84,14 +89,12 @@ impl Local<'_> {
         let mut words: usize = 0;
         let mut candidates: usize = 0;
         let mut kept: usize = 0;
-        let mut r = self.region.next_member(0);
-        while r < self.region.len {
+        for r in self.region.members() {
             let row = self.count_row(r);
             members += 1;
             words += row.words;
             candidates += row.candidates;
             kept += row.kept;
-            r = self.region.next_member(r + 1);
         }
         RegionKept {
             members,
@@ -109,7 +112,7 @@ impl Local<'_> {
         col_idx: &mut [u32],
         ranks: &mut [u32],
     )
-        requires { (count_below self.region.len (nodes self.region) ≤ length global_nodes.old) × (count_below self.region.len (nodes self.region) < length row_ptr.old) × (pairs_inside self.region.len (nodes self.region) (pairs self.rows) ≤ length col_idx.old) × (words_needed self.region.len ≤ length ranks.old) }
+        requires { (size self ≤ length global_nodes.old) × (size self < length row_ptr.old) × (kept self ≤ length col_idx.old) × (words_needed self.region.len ≤ length ranks.old) }
         ensures members { global_nodes.new ≡ over (members_below self.entry.region.len (nodes self.entry.region)) global_nodes.old }
         ensures pointers { row_ptr.new ≡ over (pattern_ptr self.entry.region.len (nodes self.entry.region) (pairs self.entry.rows)) row_ptr.old }
         ensures columns { col_idx.new ≡ over (pattern_columns self.entry.region.len (nodes self.entry.region) (pairs self.entry.rows)) col_idx.old }
@@ -118,21 +121,18 @@ impl Local<'_> {
         let ranked = Ranked { local: self, ranks };
         row_ptr[0] = 0;
         let mut next: usize = 0;
-        let mut k: usize = 0;
-        let mut r = self.region.next_member(0);
-        while r < self.region.len {
+        for (k, r) in self.region.members().enumerate() {
             global_nodes[k] = r as u32;
             next = ranked.write_row(r, col_idx, next);
-            k += 1;
-            row_ptr[k] = next as u32;
-            r = self.region.next_member(r + 1);
+            row_ptr[k + 1] = next as u32;
         }
     }
 
-    // The same with a table of its own, an array since there is no heap: a small one for a small side, where to clear the large one would cost more
-    // than the rest. The lists that are written are handed in one by one, each with its equation.
+    // The pattern with a table of ranks of its own, an array since there is no heap: a small one for a small side, where to clear the large one would cost
+    // more than the rest. A const parameter for the length is no plainer, because the function of either length would have all these clauses again. The
+    // lists that are written are handed in one by one, each with its equation.
     pub fn write(self, global_nodes: &mut [u32], row_ptr: &mut [u32], col_idx: &mut [u32])
-        requires { (count_below self.region.len (nodes self.region) ≤ length global_nodes.old) × (count_below self.region.len (nodes self.region) < length row_ptr.old) × (pairs_inside self.region.len (nodes self.region) (pairs self.rows) ≤ length col_idx.old) }
+        requires { (size self ≤ length global_nodes.old) × (size self < length row_ptr.old) × (kept self ≤ length col_idx.old) }
         ensures members { global_nodes.new ≡ over (members_below self.entry.region.len (nodes self.entry.region)) global_nodes.old }
         ensures pointers { row_ptr.new ≡ over (pattern_ptr self.entry.region.len (nodes self.entry.region) (pairs self.entry.rows)) row_ptr.old }
         ensures columns { col_idx.new ≡ over (pattern_columns self.entry.region.len (nodes self.entry.region) (pairs self.entry.rows)) col_idx.old }
@@ -148,6 +148,8 @@ impl Local<'_> {
 }
 
 impl Ranked<'_, '_> {
+    ghost use Rattle.pattern.specs.Views.{numbers};
+
     // How many members come before node c: those before its word, and those before it in the word.
     pub fn number(self, c: u32) -> u32
         requires { c < self.local.region.len }
@@ -162,7 +164,7 @@ impl Ranked<'_, '_> {
     pub fn write_row(self, r: usize, cols: &mut [u32], at: usize) -> usize
         requires { (r < self.local.region.len) × (at + count_below self.local.region.len (inside (nodes self.local.region) (pairs self.local.rows) r) ≤ length cols.old) }
         ensures value { result ≡ at + count_below self.entry.local.region.len (inside (nodes self.entry.local.region) (pairs self.entry.local.rows) r) }
-        ensures cols_after { cols.new ≡ placed at (map (number_of (nodes self.entry.local.region)) (columns_of self.entry.local.region.len (nodes self.entry.local.region) (pairs self.entry.local.rows) r)) cols.old }
+        ensures cols_after { cols.new ≡ placed at (numbers self.entry.local r) cols.old }
     {
         let rows = self.local.rows;
         let mut next = at;
@@ -175,7 +177,7 @@ impl Ranked<'_, '_> {
     }
 }
 
-// The lengths of the lists.
+// The lengths of the lists. Numbers, as a plan's room is asked by them too: a struct of lengths would be made for this call alone.
 #[tactic(auto, using(base::proofs::Checks::checks), unfolding(crate::specs::Steps::room_for))]
 pub fn check_room(
     members: usize,
@@ -200,7 +202,7 @@ pub fn check_room(
 
 pub fn stats(n: usize, counts: RegionKept) -> AbtmLocalSubmatrixPatternStats
     requires { (n ≤ side_limit) × Small counts }
-    ensures { result ≡ stats_of n counts }
+    ensures { result ≡ stats_by_counts n counts }
 {
     AbtmLocalSubmatrixPatternStats {
         global_nodes: n as u32,
@@ -224,17 +226,16 @@ pub fn write_nodes(region: Mask, nodes: &mut [u32]) -> usize
     let mut k: usize = 0;
     for (w, word) in region.words.iter().enumerate() {
         let first = (w * AbtmTopologyWord::BITS) as u32;
-        let mut bits = *word;
-        while bits != 0 {
-            nodes[k] = first + u64::trailing_zeros(bits);
+        for bit in Bits::of(*word) {
+            nodes[k] = first + bit;
             k += 1;
-            bits = bits & (bits - 1);
         }
     }
     k
 }
 
-// How many members come before each word of the region. A word without one, as most are in a small region, is not counted.
+// How many members come before each word of the region. A word without one, as most are in a small region, is not counted. By number: what a `zip` with
+// `ranks.iter_mut()` leaves in `ranks` has no name that an answer may cite.
 pub fn fill_ranks(region: Mask, ranks: &mut [u32])
     requires { words_needed region.len ≤ length ranks.old }
     ensures { ranks.new ≡ over (ranks_of region.entry.len (in_mask region.entry.words.now)) ranks.old }
@@ -248,7 +249,8 @@ pub fn fill_ranks(region: Mask, ranks: &mut [u32])
     }
 }
 
-// The set bits of `bits`, each by its rank in `inside`, counted from `first`: written from `at` on, as a row is. Where they end.
+// The set bits of `bits`, each by its rank in `inside`, counted from `first`: written from `at` on, as a row is. Where they end. A loop by hand: with
+// `Bits` here and `Members` above, writing a pattern took 5 to 13 % more instructions, some 3 of them for each column.
 fn write_word(first: u32, inside: u64, bits: u64, cols: &mut [u32], at: usize) -> usize
     requires { (at + count_below 64 (bit_at bits) ≤ length cols.old) × (first ≤ side_limit) }
     ensures value { result ≡ at + count_below 64 (bit_at bits) }

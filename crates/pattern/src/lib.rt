@@ -11,8 +11,6 @@ use base::Refusal;
 use dual_topology::AbtmDualTopology;
 use inner::Local;
 use mask::DofMask;
-use mask::inner::Mask;
-use side::inner::Side;
 
 pub mod inner;
 
@@ -36,7 +34,7 @@ pub struct RowKept {
     pub kept: usize,
 }
 
-// The same of all members' rows.
+// What the members' rows hold, and how many members there are.
 #[derive(Clone, Copy)]
 pub struct RegionKept {
     pub members: usize,
@@ -79,21 +77,8 @@ pub fn extract_local_submatrix_pattern<'a>(
     ensures pointers { row_ptr.new ≡ ptr_left (check_pattern topology.entry region.entry global_nodes.old row_ptr.old col_idx.old) topology.entry.rows.nrows (in_mask region.entry.words.now) (holds topology.entry.rows) row_ptr.old }
     ensures columns { col_idx.new ≡ columns_left (check_pattern topology.entry region.entry global_nodes.old row_ptr.old col_idx.old) topology.entry.rows.nrows (in_mask region.entry.words.now) (holds topology.entry.rows) col_idx.old }
 {
-    inner::check_region(topology, region)?;
-    let n = topology.rows.nrows;
-    let local = Local {
-        rows: Side {
-            nrows: n,
-            ncols: n,
-            row_word_ptr: topology.rows.row_word_ptr,
-            word_indices: topology.rows.word_indices,
-            masks: topology.rows.masks,
-        },
-        region: Mask {
-            len: n,
-            words: region.words,
-        },
-    };
+    let topology = topology.accept()?;
+    let local = Local::of(topology.rows, region)?;
     let kept = local.count();
     inner::check_room(
         kept.members,
@@ -103,5 +88,5 @@ pub fn extract_local_submatrix_pattern<'a>(
         col_idx.len(),
     )?;
     local.write(global_nodes, row_ptr, col_idx);
-    Ok(inner::stats(n, kept))
+    Ok(inner::stats(local.region.len, kept))
 }

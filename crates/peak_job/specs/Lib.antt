@@ -1,3 +1,4 @@
 pub mod Answer
 pub mod Steps
 pub mod Views
+pub mod Asked

@@ -1,10 +1,11 @@
 // The steps of a job that has been read, for callers that keep its lists: no part of the API.
 ghost use Rattle.std.specs.Prelude.{◌≡◌, cond, ◌+◌, ◌≤◌, ◌<◌, eqb, length, take};
 ghost use Rattle.base.specs.Checks.{◌then◌};
-ghost use Rattle.base.specs.Lists.{list_from};
+ghost use Rattle.base.specs.Lists.{list_from, over};
 ghost use Rattle.base.specs.Sets.{members_below};
 ghost use Rattle.mask.specs.Mask.{words_needed, in_mask, mask_check, IsMask};
 ghost use Rattle.csr32.specs.Views.{check_matrix};
+ghost use Rattle.dof_layout.specs.Layout.{offsets_of};
 ghost use Rattle.dof_layout.specs.Views.{check_square};
 ghost use Rattle.job_text.specs.Answer.{result_lines, text_answer, text_left};
 ghost use Rattle.peak_job.specs.Answer.{region_text, text_of};
@@ -15,8 +16,21 @@ use base::Refusal;
 use csr32::Csr32Matrix;
 use dof_layout::{FieldAwareDofLayout, FieldBlocks};
 use job_text::JobRead;
+use job_text::inner::JobResult;
 use mask::DofMask;
 use mask::inner::Mask;
+
+// A job that has room in the arrays, with its lists as they are lent.
+#[derive(Clone, Copy)]
+struct Asked<'a> {
+    size: usize,
+    blocks: &'a [u32],
+    ptr: &'a [u32],
+    cols: &'a [u32],
+    seeds: &'a [u64],
+    hops: u64,
+    ghost few: { (size ≤ 256) × (length blocks.now ≤ 1023) × (length cols.now ≤ 1023) },
+}
 
 // Each its own place.
 fn number(ids: &mut [u64])
@@ -25,6 +39,14 @@ fn number(ids: &mut [u64])
     for (b, id) in ids.iter_mut().enumerate() {
         *id = b as u64;
     }
+}
+
+// The blocks' running totals; so few have far fewer components than 64 bits hold.
+fn write_offsets(blocks: &[u32], offsets: &mut [u64])
+    requires { (length blocks.now ≤ 1023) × (length blocks.now < length offsets.old) }
+    ensures { offsets.new ≡ over (offsets_of blocks.now) offsets.old }
+{
+    dof_layout::inner::write_offsets(blocks, offsets);
 }
 
 // The size and every list have room in the arrays.
@@ -41,8 +63,7 @@ fn fits(job: JobRead) -> bool
 // The five lines of a prepared region, from the fronts of its lists; the frontier's members are listed first, in a fixed array, since there is no
 // heap.
 fn report(
-    size: usize,
-    frontier: &[u64],
+    frontier: Mask,
     completed: u64,
     inside: usize,
     pairs: usize,
@@ -51,28 +72,21 @@ fn report(
     local_cols: &[u32],
     out: &mut [u8],
 ) -> Result<u64, Refusal>
-    requires { (size ≤ 256) × (words_needed size ≤ length frontier.now) × IsMask size (take (words_needed size) frontier.now) × (inside ≤ 256) × (pairs ≤ 1023) × (inside ≤ length members.now) × (inside < length local_ptr.now) × (pairs ≤ length local_cols.now) }
-    ensures value { result ≡ text_answer (result_lines (take inside members.now) (members_below size (in_mask (take (words_needed size) frontier.now))) completed (take (inside + 1) local_ptr.now) (take pairs local_cols.now)) out.old }
-    ensures out_after { out.new ≡ text_left (result_lines (take inside members.now) (members_below size (in_mask (take (words_needed size) frontier.now))) completed (take (inside + 1) local_ptr.now) (take pairs local_cols.now)) out.old }
+    requires { (frontier.len ≤ 256) × (inside ≤ 256) × (pairs ≤ 1023) × (inside ≤ length members.now) × (inside < length local_ptr.now) × (pairs ≤ length local_cols.now) }
+    ensures value { result ≡ text_answer (result_lines (take inside members.now) (members_below frontier.entry.len (in_mask frontier.entry.words.now)) completed (take (inside + 1) local_ptr.now) (take pairs local_cols.now)) out.old }
+    ensures out_after { out.new ≡ text_left (result_lines (take inside members.now) (members_below frontier.entry.len (in_mask frontier.entry.words.now)) completed (take (inside + 1) local_ptr.now) (take pairs local_cols.now)) out.old }
 {
     let mut edge: [u32; 256] = [0; 256];
-    let need = mask::inner::words_for(size);
-    let reached = pattern::inner::write_nodes(
-        Mask {
-            len: size,
-            words: &frontier[..need],
-        },
-        &mut edge,
-    );
+    let reached = pattern::inner::write_nodes(frontier, &mut edge);
     let pointers = inside + 1;
-    job_text::inner::write_result(
-        &members[..inside],
-        &edge[0..reached],
+    JobResult {
+        region: &members[..inside],
+        frontier: &edge[..reached],
         completed,
-        &local_ptr[..pointers],
-        &local_cols[..pairs],
-        out,
-    )
+        ptr: &local_ptr[..pointers],
+        cols: &local_cols[..pairs],
+    }
+    .write(out)
 }
 
 // The lists that are written are parameters of their own: what is said of each is said of what it held before.
@@ -131,9 +145,13 @@ fn prepare(
         Ok(p) => {
             let growth = p.growth;
             let pattern = p.pattern;
+            let need = mask::inner::words_for(matrix.nrows);
+            let reached = Mask {
+                len: matrix.nrows,
+                words: &frontier[..need],
+            };
             report(
-                matrix.nrows,
-                frontier,
+                reached,
                 growth.hops_completed,
                 pattern.local_nodes as usize,
                 pattern.local_nnz as usize,
@@ -220,68 +238,58 @@ fn layout<'a>(
     }
 }
 
-// The layout of the blocks and the matrix's values, in fixed arrays, since there is no heap, then the region.
-fn lay_out<'a>(
-    size: usize,
-    blocks: &[u32],
-    ptr: &'a [u32],
-    cols: &'a [u32],
-    words: &[u64],
-    hops: u64,
-    out: &mut [u8],
-) -> Result<u64, Refusal>
-    requires { (size ≤ 256) × (length blocks.now ≤ 1023) × (length cols.now ≤ 1023) × (mask_check size words.now ≡ Ok tt) }
-    ensures value { result ≡ text_answer (text_of (laid_check size blocks.now ptr.now cols.now) (region_text size ptr.now cols.now blocks.now words.now hops)) out.old }
-    ensures out_after { out.new ≡ text_left (text_of (laid_check size blocks.now ptr.now cols.now) (region_text size ptr.now cols.now blocks.now words.now hops)) out.old }
-{
-    let kinds: [u8; 1024] = [1; 1024];
-    let mut ids: [u64; 1024] = [0; 1024];
-    let fields: [u32; 1024] = [0; 1024];
-    let values: [f64; 1024] = [1.0; 1024];
-    let mut offsets: [u64; 1024] = [0; 1024];
-    number(&mut ids);
-    dof_layout::inner::write_offsets(blocks, &mut offsets);
-    let count = blocks.len();
-    let last = count + 1;
-    let entries = cols.len();
-    let matrix = Csr32Matrix {
-        nrows: size,
-        ncols: size,
-        row_ptr: ptr,
-        col_idx: cols,
-        values: &values[0..entries],
-    };
-    let laid = layout(
-        &kinds[0..count],
-        &ids[0..count],
-        &fields[0..count],
-        blocks,
-        &offsets[0..last],
-    );
-    let seeds = DofMask { len: size, words };
-    cut(matrix, laid, seeds, hops, out)
-}
+impl Asked<'_> {
+    ghost use Rattle.peak_job.specs.Asked.{asked};
 
-// 13 for the seeds, whose mask is a fixed array, since there is no heap, then the prepared region's order.
-fn ask(
-    size: usize,
-    blocks: &[u32],
-    ptr: &[u32],
-    cols: &[u32],
-    seeds: &[u64],
-    hops: u64,
-    out: &mut [u8],
-) -> Result<u64, Refusal>
-    requires { (size ≤ 256) × (length blocks.now ≤ 1023) × (length cols.now ≤ 1023) }
-    ensures value { result ≡ text_answer (asked_text (record { size = size; blocks = blocks.now; ptr = ptr.now; cols = cols.now; seeds = seeds.now; hops = hops })) out.old }
-    ensures out_after { out.new ≡ text_left (asked_text (record { size = size; blocks = blocks.now; ptr = ptr.now; cols = cols.now; seeds = seeds.now; hops = hops })) out.old }
-{
-    let mut words: [u64; 4] = [0; 4];
-    match mask::from_indices(size, seeds, &mut words) {
-        Err(r) => job_text::inner::refuse(r, out),
-        Ok(()) => {
-            let need = mask::inner::words_for(size);
-            lay_out(size, blocks, ptr, cols, &words[0..need], hops, out)
+    // The layout of the blocks and the matrix's values, in fixed arrays, since there is no heap, then the region of the seeds' mask.
+    fn lay_out(self, words: &[u64], out: &mut [u8]) -> Result<u64, Refusal>
+        requires { mask_check self.size words.now ≡ Ok tt }
+        ensures value { result ≡ text_answer (text_of (laid_check self.entry.size self.entry.blocks.now self.entry.ptr.now self.entry.cols.now) (region_text self.entry.size self.entry.ptr.now self.entry.cols.now self.entry.blocks.now words.now self.entry.hops)) out.old }
+        ensures out_after { out.new ≡ text_left (text_of (laid_check self.entry.size self.entry.blocks.now self.entry.ptr.now self.entry.cols.now) (region_text self.entry.size self.entry.ptr.now self.entry.cols.now self.entry.blocks.now words.now self.entry.hops)) out.old }
+    {
+        let kinds: [u8; 1024] = [1; 1024];
+        let mut ids: [u64; 1024] = [0; 1024];
+        let fields: [u32; 1024] = [0; 1024];
+        let values: [f64; 1024] = [1.0; 1024];
+        let mut offsets: [u64; 1024] = [0; 1024];
+        number(&mut ids);
+        write_offsets(self.blocks, &mut offsets);
+        let count = self.blocks.len();
+        let last = count + 1;
+        let entries = self.cols.len();
+        let matrix = Csr32Matrix {
+            nrows: self.size,
+            ncols: self.size,
+            row_ptr: self.ptr,
+            col_idx: self.cols,
+            values: &values[0..entries],
+        };
+        let laid = layout(
+            &kinds[0..count],
+            &ids[0..count],
+            &fields[0..count],
+            self.blocks,
+            &offsets[0..last],
+        );
+        let seeds = DofMask {
+            len: self.size,
+            words,
+        };
+        cut(matrix, laid, seeds, self.hops, out)
+    }
+
+    // 13 for the seeds, whose mask is a fixed array, since there is no heap, then the prepared region's order.
+    fn answer(self, out: &mut [u8]) -> Result<u64, Refusal>
+        ensures value { result ≡ text_answer (asked_text (asked self.entry)) out.old }
+        ensures out_after { out.new ≡ text_left (asked_text (asked self.entry)) out.old }
+    {
+        let mut words: [u64; 4] = [0; 4];
+        match mask::from_indices(self.size, self.seeds, &mut words) {
+            Err(r) => job_text::inner::refuse(r, out),
+            Ok(()) => {
+                let need = mask::inner::words_for(self.size);
+                self.lay_out(&words[0..need], out)
+            }
         }
     }
 }
@@ -289,13 +297,12 @@ fn ask(
 // 27, then 1, then the rest, of a job that was read into the fronts of four lists.
 pub fn judge(
     read: Option<JobRead>,
-    blocks: &[u32],
-    ptr: &[u32],
-    cols: &[u32],
-    seeds: &[u64],
+    blocks: &[u32; 1024],
+    ptr: &[u32; 1024],
+    cols: &[u32; 1024],
+    seeds: &[u64; 1024],
     out: &mut [u8],
 ) -> Result<u64, Refusal>
-    requires { (length blocks.now ≡ 1024) × (length ptr.now ≡ 1024) × (length cols.now ≡ 1024) × (length seeds.now ≡ 1024) }
     ensures value { result ≡ text_answer (judged_text read blocks.now ptr.now cols.now seeds.now) out.old }
     ensures out_after { out.new ≡ text_left (judged_text read blocks.now ptr.now cols.now seeds.now) out.old }
 {
@@ -305,13 +312,13 @@ pub fn judge(
     if !fits(job) {
         return job_text::inner::refuse(Refusal::OverLimit, out);
     }
-    ask(
-        job.size as usize,
-        &blocks[..job.blocks],
-        &ptr[..job.pointers],
-        &cols[..job.columns],
-        &seeds[..job.seeds],
-        job.hops,
-        out,
-    )
+    Asked {
+        size: job.size as usize,
+        blocks: &blocks[..job.blocks],
+        ptr: &ptr[..job.pointers],
+        cols: &cols[..job.columns],
+        seeds: &seeds[..job.seeds],
+        hops: job.hops,
+    }
+    .answer(out)
 }

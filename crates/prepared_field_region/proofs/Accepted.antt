@@ -1,30 +1,33 @@
 -- What acceptance gives a prepared region: inputs of one side, and lists that reach their needed lengths. Assumes nothing.
-use mathlib.Core.Path.{◌≡◌, sym, ◌∙◌, subst}
-use Rattle.std.specs.Prelude.{Ok, Err, IfOk}
-use Rattle.base.specs.Checks.{Check}
+use mathlib.Core.Path.{◌≡◌, sym, ap, ap₂, ◌∙◌, subst}
+use Rattle.std.proofs.Common.{Bor}
+use Rattle.std.specs.Prelude.{Ok, leb}
+use Rattle.base.specs.Checks.{Check, must, ◌then◌}
+use Rattle.base.specs.declared.Refusal.TheVariants.{ListTooShort}
 use mathlib.Core.List.{List}
 use Prim.Native.Nat.{ℕ, ◌≤◌, ◌<◌}
 use borrow.Author.Tests.{leb-true, ltb-true}
 use lib.Ieee.{Float}
 use lib.ListN.{length}
-use Rattle.base.proofs.Checks.{both-passed, passed}
+use Rattle.base.proofs.Checks.{both-passed, passed, then-assoc}
 use Rattle.csr32.specs.Matrix.{matrix_check, IsMatrix}
 use Rattle.csr32.proofs.Matrix.{accepted}
-use Rattle.dof_layout.specs.Layout.{total_of, layout_check, IsLayout}
+use Rattle.dof_layout.specs.Layout.{total_of, IsLayout}
 use Rattle.dof_layout.specs.Answers.{square_check}
 use Rattle.dual_topology.proofs.Built.{build-fits}
 use Rattle.growth.proofs.Lent.{masks-fit}
 use Rattle.field_region.specs.Owners.{owners_check}
 use Rattle.field_region.proofs.Accepted.{accepted-square}
 use Rattle.field_region.proofs.Owning.{accepted-owners}
+use Rattle.pattern.specs.Steps.{room_for}
+use Rattle.numeric_plan.specs.Steps.{plan_room_for}
 use Rattle.prepared_field_region.specs.Prepared.{local_room, prepare_room, prepare_inputs, block_owners_check}
+use Rattle.csr32.specs.declared.Csr32Matrix.{Csr32Matrix}
+use Rattle.mask.specs.declared.DofMask.{DofMask}
+use Rattle.dof_layout.specs.declared.FieldAwareDofLayout.{FieldAwareDofLayout}
+use Rattle.prepared_field_region.specs.declared.inner.Inputs.{Inputs}
+use Rattle.prepared_field_region.specs.Views.{AcceptedFrom}
 use Rattle.cutting.specs.Steps.{LocalFits, MasksFit}
-
--- the layout comes before 18
-pub square-layout : (kinds ids fields components offsets : List ℕ) (nrows ncols : ℕ) → square_check kinds ids fields components offsets nrows ncols ≡ Ok tt
-    → layout_check kinds ids fields components offsets ≡ Ok tt
-unfolding square_check
-square-layout kinds ids fields components offsets nrows ncols e = (both-passed _ _ e).0
 
 -- the matrix is square
 pub accepted-matrix : (nrows ncols : ℕ) (ptr cols : List ℕ) (values : List Float) (kinds ids fields components offsets : List ℕ) (len : ℕ) (seeds : List ℕ)
@@ -37,10 +40,20 @@ accepted-matrix nrows ncols ptr cols values kinds ids fields components offsets 
     let same : ncols ≡ nrows = q.2 ∙ sym q.1 in
     (subst (λ (k : ℕ). IsMatrix nrows k ptr cols) same (accepted nrows ncols ptr cols values a.0).matrix, same)
 
--- what a refusal of the check says is known of an accepted result
-pub if-accepted : {P : Type 0} (result check : Check) → result ≡ check → (check ≡ Ok tt → P) → IfOk result (λ t. P)
-if-accepted (Ok tt) check e f = f (sym e)
-if-accepted (Err r) check e f = tt
+-- what is said of accepted inputs is said of what was lent
+pub as-lent : {A : Type 0} (m : Csr32Matrix) (l : FieldAwareDofLayout) (d : DofMask) (i : Inputs) → AcceptedFrom m l d i → (f : ℕ → ℕ → List ℕ → List ℕ → List ℕ → List ℕ → A)
+    → f i.matrix.nrows i.matrix.ncols i.matrix.row_ptr.now i.matrix.col_idx.now i.layout.components.now i.seeds.words.now ≡ f m.nrows m.ncols m.row_ptr.now m.col_idx.now l.blocks.components.now d.words.now
+as-lent m l d i e f =
+    ap₂ (λ (x y : ℕ). f x y i.matrix.row_ptr.now i.matrix.col_idx.now i.layout.components.now i.seeds.words.now) e.0.0 e.0.1
+    ∙ ap₂ (λ (x y : Bor (List ℕ)). f m.nrows m.ncols x.now y.now i.layout.components.now i.seeds.words.now) e.0.2 e.0.3
+    ∙ ap₂ (λ (x y : Bor (List ℕ)). f m.nrows m.ncols m.row_ptr.now m.col_idx.now x.now y.now) e.1.0 e.2.1
+
+-- the room of a plan with as many members, pairs and sources as there can be
+pub plan-room : (n entries nodes pointers columns source_pointers sources : ℕ)
+    → plan_room_for (record { members = n; pairs = entries; sources = entries }) nodes pointers columns source_pointers sources ≡ local_room n entries nodes pointers columns source_pointers sources
+unfolding plan_room_for room_for local_room
+plan-room n entries nodes pointers columns source_pointers sources =
+    then-assoc (must (leb n nodes) ListTooShort) _ _ ∙ ap (λ (x : Check). must (leb n nodes) ListTooShort then x) (then-assoc _ _ _)
 
 local_fits : (n entries : ℕ) (nodes ptr cols source_ptr sources : List ℕ) → local_room n entries (length nodes) (length ptr) (length cols) (length source_ptr) (length sources) ≡ Ok tt
     → LocalFits n entries nodes ptr cols source_ptr sources

@@ -1,16 +1,16 @@
 -- What document 01 says of a matrix, a layout and seeds that are lent.
-use Rattle.std.specs.Prelude.{◌≡◌, Bool, List, ℕ, length}
+use Rattle.std.specs.Prelude.{Bool, List, ℕ, length}
 use Rattle.base.specs.Checks.{Check}
 use Rattle.csr32.specs.declared.Csr32Matrix.{Csr32Matrix}
-use Rattle.csr32.specs.Matrix.{IsMatrix}
-use Rattle.csr32.specs.Views.{check_matrix}
+use Rattle.csr32.specs.Views.{check_matrix, AcceptedFrom as AcceptedMatrix}
 use Rattle.mask.specs.declared.DofMask.{DofMask}
-use Rattle.mask.specs.Mask.{IsMask}
+use Rattle.mask.specs.Views.{AcceptedFrom as AcceptedMask}
 use Rattle.dof_layout.specs.declared.FieldAwareDofLayout.{FieldAwareDofLayout}
-use Rattle.dof_layout.specs.Views.{check_square, total, SoundLayout}
+use Rattle.dof_layout.specs.Views.{check_square, AcceptedFrom as AcceptedLayout}
 use Rattle.graph.specs.Network.{Network}
 use Rattle.field_region.specs.Views.{check_owning}
 use Rattle.cutting.specs.Cut.{network_of, region_of, lists_of}
+use Rattle.prepared_field_region.specs.declared.inner.Inputs.{Inputs}
 use Rattle.prepared_field_region.specs.Prepared.{prepare_room, prepare_inputs, prepare_check, block_owners_check, prepared_of}
 use Rattle.prepared_field_region.specs.declared.PreparedFieldAwareLocalRegion.{PreparedFieldAwareLocalRegion}
 
@@ -42,16 +42,6 @@ lists m l s h = lists_of m.nrows (grown m l s h) m.row_ptr.now m.col_idx.now
 abbrev pub prepared : Csr32Matrix → FieldAwareDofLayout → DofMask → ℕ → PreparedFieldAwareLocalRegion
 prepared m l s h = prepared_of m.nrows m.ncols m.row_ptr.now m.col_idx.now l.blocks.components.now s.words.now h
 
--- ---- what is known where the checks accept
-
--- a square matrix, and a layout of its nodes
-pub record SoundSystem (m : Csr32Matrix) (l : FieldAwareDofLayout) : Type 0 where
-  pub matrix : IsMatrix m.nrows m.ncols m.row_ptr.now m.col_idx.now
-  pub square : m.ncols ≡ m.nrows
-  pub sized : m.nrows ≡ total l
-  pub layout : SoundLayout l
-
--- and a mask of them
-pub record SoundInputs (m : Csr32Matrix) (l : FieldAwareDofLayout) (s : DofMask) : Type 0 where
-  pub system : SoundSystem m l
-  pub mask : IsMask m.nrows s.words.now
+-- the three as they were accepted, with a mask of the nodes
+abbrev pub AcceptedFrom : Csr32Matrix → FieldAwareDofLayout → DofMask → Inputs → Type 0
+AcceptedFrom m l s i = AcceptedMatrix m i.matrix × AcceptedLayout l i.layout × AcceptedMask s i.seeds

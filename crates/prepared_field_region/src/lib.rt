@@ -15,13 +15,11 @@ ghost use Rattle.prepared_field_region.specs.Views.{check_prepare, check_block_o
 
 use base::Refusal;
 use csr32::Csr32Matrix;
-use csr32::inner::Matrix;
 use dof_layout::FieldAwareDofLayout;
-use dof_layout::inner::Layout;
 use dual_topology::{AbtmDualTopologyStats, TopologyCounts};
 use field_region::FieldAwareRegionStats;
+use inner::Inputs;
 use mask::DofMask;
-use mask::inner::Mask;
 use numeric_plan::AbtmLocalNumericPlanStats;
 use pattern::AbtmLocalSubmatrixPatternStats;
 
@@ -37,6 +35,7 @@ pub struct PreparedFieldAwareLocalRegion {
     pub numeric_plan: AbtmLocalNumericPlanStats,
 }
 
+// The Rust's functions of these names.
 impl PreparedFieldAwareLocalRegion {
     pub fn topology_stats(self) -> AbtmDualTopologyStats
         ensures { result ≡ self.topology }
@@ -63,13 +62,13 @@ impl PreparedFieldAwareLocalRegion {
     }
 }
 
-// The lists that are written are parameters of their own: what is said of each is said of what it held before.
 // The topology's eight lists are lent as to `from_csr32`, the three masks as to a growth; the last five take side members, side + 1 pointers, a column
-// and a source for each entry, and a source pointer for each entry and one.
-pub fn prepare_region(
-    matrix: Csr32Matrix,
-    layout: FieldAwareDofLayout,
-    seeds: DofMask,
+// and a source for each entry, and a source pointer for each entry and one. The lists that are written are handed in one by one, here and in `inner`,
+// each with its equation: in a struct behind `&mut` each contract would say besides that the references stay.
+pub fn prepare_region<'a>(
+    matrix: Csr32Matrix<'a>,
+    layout: FieldAwareDofLayout<'a>,
+    seeds: DofMask<'a>,
     hops: u64,
     row_word_ptr: &mut [u32],
     row_word_indices: &mut [u32],
@@ -106,19 +105,20 @@ pub fn prepare_region(
     ensures source_pointers { source_ptr.new ≡ prepared_source_ptr (check_prepare matrix.entry layout.entry seeds.entry row_word_ptr.old row_word_indices.old row_masks.old column_word_ptr.old column_word_indices.old column_masks.old starts.old order.old region.old frontier.old scratch.old global_nodes.old local_row_ptr.old local_col_idx.old source_ptr.old source_indices.old) (lists matrix.entry layout.entry seeds.entry hops) (length matrix.entry.col_idx.now) source_ptr.old }
     ensures sources { source_indices.new ≡ prepared_sources (check_prepare matrix.entry layout.entry seeds.entry row_word_ptr.old row_word_indices.old row_masks.old column_word_ptr.old column_word_indices.old column_masks.old starts.old order.old region.old frontier.old scratch.old global_nodes.old local_row_ptr.old local_col_idx.old source_ptr.old source_indices.old) (lists matrix.entry layout.entry seeds.entry hops) (length matrix.entry.col_idx.now) source_indices.old }
 {
-    inner::check_inputs(matrix, layout, seeds)?;
+    let inputs = Inputs::of(matrix, layout, seeds)?;
+    let matrix = inputs.matrix;
     inner::check_room(
         matrix.nrows,
         matrix.ncols,
         matrix.col_idx.len(),
-        row_word_ptr.len(),
-        row_word_indices.len(),
-        row_masks.len(),
-        column_word_ptr.len(),
-        column_word_indices.len(),
-        column_masks.len(),
-        starts.len(),
-        order.len(),
+        row_word_ptr,
+        row_word_indices,
+        row_masks,
+        column_word_ptr,
+        column_word_indices,
+        column_masks,
+        starts,
+        order,
         region.len(),
         frontier.len(),
         scratch.len(),
@@ -128,24 +128,8 @@ pub fn prepare_region(
         source_ptr.len(),
         source_indices.len(),
     )?;
-    let held = Matrix {
-        nrows: matrix.nrows,
-        ncols: matrix.ncols,
-        row_ptr: matrix.row_ptr,
-        col_idx: matrix.col_idx,
-    };
-    let blocks = Layout {
-        components: layout.blocks.components,
-        offsets: layout.offsets,
-    };
-    let mask = Mask {
-        len: matrix.nrows,
-        words: seeds.words,
-    };
     Ok(inner::prepare(
-        held,
-        blocks,
-        mask,
+        inputs,
         hops,
         row_word_ptr,
         row_word_indices,
@@ -177,11 +161,9 @@ pub fn validate_block_owners(
     ensures value { result ≡ owners_answer (check_block_owners matrix.entry layout.entry dof_owners.now ranks out.old) layout.entry.blocks.components.now }
     ensures owned { out.new ≡ owners_list (check_block_owners matrix.entry layout.entry dof_owners.now ranks out.old) layout.entry.blocks.components.now dof_owners.now out.old }
 {
-    inner::check_owners(matrix, layout, dof_owners, ranks, out.len())?;
-    let blocks = Layout {
-        components: layout.blocks.components,
-        offsets: layout.offsets,
-    };
-    field_region::inner::write_owners(blocks, dof_owners, out);
-    Ok(layout.blocks.components.len() as u64)
+    matrix.validate()?;
+    let layout = layout.accept_square(matrix.nrows, matrix.ncols)?;
+    field_region::inner::check_owned(layout, dof_owners, ranks, out.len())?;
+    field_region::inner::write_owners(layout, dof_owners, out);
+    Ok(layout.components.len() as u64)
 }

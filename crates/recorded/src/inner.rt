@@ -5,14 +5,14 @@ ghost use Rattle.std.specs.Prelude.{◌≡◌, ℕ, ◌+◌, ◌*◌, ◌%◌, �
 ghost use Rattle.std.specs.Float.{binary64};
 ghost use Rattle.base.specs.Lists.{placed};
 ghost use Rattle.base.specs.Sets.{one_if};
-ghost use Rattle.records.specs.Bytes.{ListAt, bytes_of};
+ghost use Rattle.records.specs.Bytes.{ListAt, bytes_of, number_at as number_read};
 
 use hybit_matrix::both_sides::{BuildAnswer, DualStatsAnswer};
 use hybit_matrix::local::{PatternAnswer, PlanAnswer};
 use hybit_matrix::one_side::TopologyStatsAnswer;
 use hybit_matrix::regions::{FieldGrowthAnswer, GrowthAnswer, MultiplicityAnswer};
 use hybit_matrix::{Answer, PairAnswer};
-use records::inner::{List, put_list};
+use records::inner::{List, number_at, put_list};
 use std::num::f64_to_bits_with_nan;
 
 // The numbers: number, present (0 or 1), expected, actual, then the values, of a float its bits.
@@ -260,6 +260,28 @@ impl Recorded for PlanAnswer {
                 self.plan_bytes,
             ],
         );
+    }
+}
+
+// Rows, columns and pairs of a side, as a record gives them.
+#[derive(Clone, Copy)]
+pub struct Shape {
+    pub nrows: usize,
+    pub ncols: usize,
+    pub pairs: usize,
+}
+
+impl Shape {
+    // The three numbers from `at` on.
+    pub fn read(call: &[u8], at: usize) -> Shape
+        requires { at + 24 ≤ length call.now }
+        ensures { result ≡ record { nrows = number_read call.now at; ncols = number_read call.now (at + 8); pairs = number_read call.now (at + 16) } }
+    {
+        Shape {
+            nrows: number_at(call, at) as usize,
+            ncols: number_at(call, at + 8) as usize,
+            pairs: number_at(call, at + 16) as usize,
+        }
     }
 }
 

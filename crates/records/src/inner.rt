@@ -1,12 +1,14 @@
-// Numbers and lists in a record of bytes, little-endian, 8 bytes each. Where each stands is the record's format (oracle/README.md): a place is handed in.
+// Numbers and lists in a record of bytes, little-endian, 8 bytes each. Where each stands is the record's format (oracle/README.md): a place is
+// handed in.
 ghost use Rattle.std.specs.Prelude.{◌≡◌, ℕ, ◌+◌, ◌*◌, ◌%◌, ◌<◌, ◌≤◌, from_bits, to_bits, map, min, length, take, get_or, [], ◌∷◌};
 ghost use Rattle.std.specs.Float.{binary64};
 ghost use Rattle.base.specs.Lists.{placed};
-ghost use Rattle.records.specs.Bytes.{half_found_at, number_at, list_found_at, bytes_of};
+ghost use Rattle.records.specs.Bytes.{number_at, list_found_at, bytes_of};
 
 use std::num;
 
-// An element of a list, as a number of a record is read as one, and as one is written.
+// An element of a list, as a number of a record is read as one, and as one is written. `text_reading::Width` has an `of` too, which takes numbers up
+// to its most only; an f64 has no most, and neither crate stands on the other. `base::Number` only compares.
 pub trait Element: Copy {
     ghost read: { ℕ → Self };
 
@@ -76,30 +78,13 @@ impl Element for f64 {
     }
 }
 
-pub fn byte_at(call: &[u8], at: usize) -> u64
-    requires { at < length call.now }
-    ensures value { result ≡ get_or call.now at 0 }
-    ensures upper_bound { result < 256 }
-{
-    call[at] as u64
-}
-
-pub fn half_at(call: &[u8], at: usize) -> u64
-    requires { at + 4 ≤ length call.now }
-    ensures value { result ≡ half_found_at call.now at }
-    ensures upper_bound { result < 4294967296 }
-{
-    byte_at(call, at)
-        + 256 * byte_at(call, at + 1)
-        + 65536 * byte_at(call, at + 2)
-        + 16777216 * byte_at(call, at + 3)
-}
-
 pub fn number_at(call: &[u8], at: usize) -> u64
     requires { at + 8 ≤ length call.now }
     ensures { result ≡ number_at call.now at }
 {
-    half_at(call, at) + 4294967296 * half_at(call, at + 4)
+    let mut bytes = [0; 8];
+    bytes.copy_from_slice(&call[at..at + 8]);
+    u64::from_le_bytes(bytes)
 }
 
 // A list's length, where there is room for so many.
@@ -111,7 +96,8 @@ pub fn count_at(call: &[u8], at: usize, room: usize) -> usize
     number_at(call, at).min(room as u64) as usize
 }
 
-// As many as the list has room for.
+// As many as the list has room for. By places, here and in `put_list`: a number of a record is read and put at its place, and a chunk of 8 bytes would
+// have to be made an array first.
 pub fn read_list<T: Element>(call: &[u8], at: usize, list: &mut [T])
     requires { at + 8 * length list.old ≤ length call.now }
     ensures { list.new ≡ list_found_at T.read (length list.old) call.now at }

@@ -1,23 +1,22 @@
 // Regions of a topology's graph, region.rs of the Rust: growth hop by hop over rows and columns.
 #![tactic(auto)]
 
-ghost use Rattle.std.specs.Prelude.{◌≡◌, IfOk, ◌≤◌, length, replicate};
+ghost use Rattle.std.specs.Prelude.{◌≡◌, ◌≤◌, length, replicate};
 ghost use Rattle.base.specs.Lists.{over};
 ghost use Rattle.mask.specs.Mask.{words_needed};
 ghost use Rattle.side.specs.Views.{pairs};
 ghost use Rattle.graph.specs.Network.{plain_network, region_words, frontier_words};
 ghost use Rattle.growth.specs.Lent.{region_left, frontier_left, scratch_left};
 ghost use Rattle.region.specs.Growth.{stats_of_growth, grow_answer, words_visited, nodes_added};
-ghost use Rattle.region.specs.Views.{check_grow, plain, Growable};
+ghost use Rattle.region.specs.Views.{check_grow, plain};
 
 use base::Refusal;
 use dual_topology::AbtmDualTopology;
-use dual_topology::inner::Topology;
 use growth::inner::Graph;
 use mask::DofMask;
 use mask::inner::Mask;
-use side::inner::Side;
 
+// What a growth did: its hops, how many nodes its seeds and its region hold, and what its hops visited.
 #[derive(Clone, Copy)]
 pub struct AbtmRegionGrowthStats {
     pub hops_requested: u64,
@@ -34,44 +33,19 @@ impl AbtmRegionGrowthStats {
     pub fn topology_words_visited(self) -> u64
         ensures { result ≡ words_visited self }
     {
-        if self.column_words_visited > u64::MAX - self.row_words_visited {
-            return u64::MAX;
-        }
-        self.row_words_visited + self.column_words_visited
+        self.row_words_visited
+            .saturating_add(self.column_words_visited)
     }
 
     pub fn new_nodes(self) -> u64
         ensures { result ≡ nodes_added self }
     {
-        if self.region_nodes < self.seed_nodes {
-            return 0;
-        }
-        self.region_nodes - self.seed_nodes
+        self.region_nodes.saturating_sub(self.seed_nodes)
     }
 }
 
-// The topology, its shape, the mask, the lengths of the lists.
-#[tactic(auto, using(base::proofs::Checks::checks), unfolding(crate::specs::Growth::grow_check))]
-fn check_growth(
-    topology: AbtmDualTopology,
-    mask: DofMask,
-    region: &[u64],
-    frontier: &[u64],
-    scratch: &[u64],
-) -> Result<(), Refusal>
-    ensures value { result ≡ check_grow topology.entry mask.entry region.now frontier.now scratch.now }
-    ensures accepted { IfOk result (λ t. Growable topology.entry mask.entry region.now frontier.now scratch.now) }
-{
-    topology.validate()?;
-    let n = topology.rows.nrows;
-    if n != topology.rows.ncols {
-        return Err(Refusal::NotSquare);
-    }
-    mask::inner::check_length(n, mask.len, mask.words)?;
-    growth::inner::check_room(n, region.len(), frontier.len(), scratch.len())
-}
-
-// A growth and its statistics, on lists that reach their needed lengths; `scratch` is left zero.
+// A growth and its statistics, on lists that reach their needed lengths; `scratch` is left zero. Field growth has a function of its own: what is
+// the same in both is how the lists are cut, while the growth, its statistics and their names are not.
 fn grow(
     graph: Graph,
     seeds: Mask,
@@ -125,30 +99,8 @@ pub fn grow_undirected_region(
     ensures edge { frontier.new ≡ frontier_left (check_grow topology.entry mask.entry region.old frontier.old scratch.old) (plain topology.entry) mask.entry.words.now hops frontier.old }
     ensures spent { scratch.new ≡ scratch_left (check_grow topology.entry mask.entry region.old frontier.old scratch.old) topology.entry.rows.nrows scratch.old }
 {
-    check_growth(topology, mask, region, frontier, scratch)?;
-    let n = topology.rows.nrows;
-    let graph = Graph {
-        n,
-        topology: Topology {
-            rows: Side {
-                nrows: n,
-                ncols: n,
-                row_word_ptr: topology.rows.row_word_ptr,
-                word_indices: topology.rows.word_indices,
-                masks: topology.rows.masks,
-            },
-            columns: Side {
-                nrows: n,
-                ncols: n,
-                row_word_ptr: topology.columns.row_word_ptr,
-                word_indices: topology.columns.word_indices,
-                masks: topology.columns.masks,
-            },
-        },
-    };
-    let seeds = Mask {
-        len: n,
-        words: mask.words,
-    };
+    let graph = Graph::of(topology)?;
+    let seeds = mask.accept_of(graph.n)?;
+    growth::inner::check_room(graph.n, region.len(), frontier.len(), scratch.len())?;
     Ok(grow(graph, seeds, hops, region, frontier, scratch))
 }

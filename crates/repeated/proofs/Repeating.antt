@@ -12,6 +12,9 @@ use Rattle.base.specs.Checks.{leaves}
 use Rattle.base.specs.Lists.{over}
 use Rattle.mask.specs.Mask.{mask_words}
 use Rattle.graph.specs.Network.{Network, region_words, frontier_words}
+use Rattle.side.specs.Views.{holds, pairs}
+use Rattle.side.specs.declared.AbtmTopology.{AbtmTopology}
+use Rattle.side.specs.declared.inner.Side.{Side}
 use Rattle.growth.specs.Visits.{grown_by}
 use Rattle.growth.specs.declared.Grown.{Grown}
 use Rattle.base.proofs.Lists.{part_left}
@@ -20,6 +23,7 @@ use Rattle.region.specs.declared.AbtmRegionGrowthStats.{AbtmRegionGrowthStats}
 use Rattle.field_region.specs.Growth.{field_grow_answer, blocks_grown_by}
 use Rattle.field_region.specs.declared.FieldAwareRegionStats.{FieldAwareRegionStats}
 use Rattle.field_region.specs.declared.BlocksGrown.{BlocksGrown}
+use Rattle.repeated.specs.Views.{SideOf}
 use Rattle.repeated.specs.Repeated.{value_answer, hops_answer, field_hops_answer}
 
 -- what one growth answers and leaves in lists of just the masks' lengths
@@ -63,3 +67,7 @@ hops-told check g seeds h x e ex = ap (λ (y : Grown). value_answer y.hops) ex �
 pub field-hops-told : (check : Check) (g : Network) (seeds : List ℕ) (h : ℕ) (x : BlocksGrown) → check ≡ Ok tt → x ≡ blocks_grown_by g seeds h → value_answer x.grown.hops ≡ field_hops_answer (field_grow_answer check g seeds h)
 unfolding field_hops_answer
 field-hops-told check g seeds h x e ex = ap (λ (y : BlocksGrown). value_answer y.grown.hops) ex ∙ ap (λ (t : Check). field_hops_answer (field_grow_answer t g seeds h)) (sym e)
+
+-- what is made of a side holds its pairs
+pub side-pairs : (n : ℕ) (t : AbtmTopology) (s : Side) → SideOf n t s → pairs s ≡ holds t
+side-pairs n t s e = cc (e.2, e.3, e.4)

@@ -1,8 +1,11 @@
 -- Topologies, masks and systems of a call: what is known of the lists behind them.
-use Rattle.std.specs.Prelude.{List, ℕ, ◌^◌, ◌<◌, get_or}
+use Rattle.std.specs.Prelude.{◌≡◌, List, ℕ, ◌^◌, ◌<◌, get_or}
 use Rattle.mask.specs.declared.DofMask.{DofMask}
 use Rattle.mask.specs.Views.{nodes}
+use Rattle.side.specs.declared.AbtmTopology.{AbtmTopology}
+use Rattle.side.specs.declared.inner.Side.{Side}
 use Rattle.dual_topology.specs.declared.AbtmDualTopology.{AbtmDualTopology}
+use Rattle.growth.specs.declared.inner.Graph.{Graph}
 use Rattle.binding.specs.declared.inner.System.{System}
 use Rattle.binding.specs.Steps.{sources_inside}
 use Rattle.repeated.specs.Held.{PlanHeld}
@@ -21,3 +24,10 @@ SystemHeld s =
 -- how many sources its plan has
 abbrev pub terms_inside : System → ℕ
 terms_inside s = sources_inside s.local.region.len (nodes s.local.region) s.matrix.row_ptr.now s.matrix.col_idx.now
+
+-- what is made of a side and of a topology that a call has accepted
+abbrev pub SideOf : ℕ → AbtmTopology → Side → Type 0
+SideOf n t s = (s.nrows ≡ n) × (s.ncols ≡ n) × (s.row_word_ptr ≡ t.row_word_ptr) × (s.word_indices ≡ t.word_indices) × (s.masks ≡ t.masks)
+
+abbrev pub GraphOf : AbtmDualTopology → Graph → Type 0
+GraphOf t g = (g.n ≡ t.rows.nrows) × SideOf t.rows.nrows t.rows g.topology.rows × SideOf t.rows.nrows t.columns g.topology.columns

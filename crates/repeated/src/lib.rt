@@ -1,7 +1,9 @@
 // For the benchmark only: a growth, a closing, a pattern, a plan or a gather made many times after one check of its inputs, so that its own time
 // can be told from the time of the checks. It leaves and answers what one call does. repeated_c exports them; no part of a station's library.
 // Its exported functions take each list for itself and answer a flat record: both are C's. Lists that are written are no struct: a clause could not
-// name what each is left with.
+// name what each is left with. So a loop over one call is a function for each of them: a closure would hold the lists that its call writes, and what
+// each is left with would be said of the closure. What a call has accepted is made the accepted struct by a function or a literal that checks nothing:
+// `accept` would check it a second time, and the benchmark would count that. Lists of arguments make the functions long.
 #![tactic(auto)]
 
 ghost use Rattle.std.specs.Prelude.{◌≡◌, false, ℕ, ◌^◌, ◌<◌, length, get_or};
@@ -10,8 +12,9 @@ ghost use Rattle.dof_layout.specs.Layout.{total_of};
 ghost use Rattle.dof_layout.specs.Answers.{square_check};
 ghost use Rattle.dof_layout.specs.Views.{total};
 ghost use Rattle.side.specs.Side.{side_holds};
+ghost use Rattle.side.specs.Check.{IsSide};
 ghost use Rattle.side.specs.Views.{pairs};
-ghost use Rattle.dual_topology.specs.Check.{topology_check};
+ghost use Rattle.dual_topology.specs.Check.{topology_check, IsTopology};
 ghost use Rattle.graph.specs.Network.{plain_network, field_network, region_words, frontier_words};
 ghost use Rattle.growth.specs.Visits.{grown_by};
 ghost use Rattle.growth.specs.Lent.{region_left, frontier_left, scratch_left};
@@ -21,7 +24,7 @@ ghost use Rattle.field_region.specs.Growth.{field_grow_check, field_grow_answer,
 ghost use Rattle.field_region.specs.Closure.{close_check, close_answer, closed_words, close_words};
 ghost use Rattle.field_region.specs.Views.{fields, blocked, check_closing, check_field_grow};
 ghost use Rattle.repeated.specs.Repeated.{hops_answer, field_hops_answer, count_answer, value_answer, refused_answer};
-ghost use Rattle.repeated.specs.Views.{Words};
+ghost use Rattle.repeated.specs.Views.{Words, SideOf, GraphOf};
 
 use base::Refusal;
 use dof_layout::FieldAwareDofLayout;
@@ -34,14 +37,15 @@ use growth::Grown;
 use growth::inner::Graph;
 use mask::DofMask;
 use mask::inner::Mask;
+use side::AbtmTopology;
 use side::inner::Side;
 
 pub mod local;
 mod views;
 
-// The value: the hops completed, or the count of nodes, of pairs or of sources.
+// The value: the hops completed, or the count of nodes, of pairs or of sources. hybit_matrix has a record like it, and is not below this crate.
 #[repr(C)]
-#[derive(Clone, Copy)]
+#[derive(Clone, Copy, Default)]
 pub struct Answer {
     pub number: u32,
     pub present: bool,
@@ -56,10 +60,9 @@ impl From<Refusal> for Answer {
     fn from(r: Refusal) -> Self {
         Self {
             number: r.number(),
-            present: false,
             expected: r.expected(),
             actual: r.actual(),
-            value: 0,
+            ..Self::default()
         }
     }
 }
@@ -69,12 +72,39 @@ impl From<u64> for Answer {
 
     fn from(value: u64) -> Self {
         Self {
-            number: 0,
             present: true,
-            expected: 0,
-            actual: 0,
             value,
+            ..Self::default()
         }
+    }
+}
+
+// A side of `n` nodes, of a topology that a call has accepted.
+pub(crate) fn side_of<'a>(n: usize, side: AbtmTopology<'a>) -> Side<'a>
+    requires { IsSide n n side.row_word_ptr.now side.word_indices.now side.masks.now }
+    ensures { SideOf n side.entry result }
+{
+    Side {
+        nrows: n,
+        ncols: n,
+        row_word_ptr: side.row_word_ptr,
+        word_indices: side.word_indices,
+        masks: side.masks,
+    }
+}
+
+// The graph of a topology that a call has accepted.
+fn graph_of<'a>(topology: AbtmDualTopology<'a>) -> Graph<'a>
+    requires { IsTopology topology.rows.nrows topology.rows.nrows topology.rows.row_word_ptr.now topology.rows.word_indices.now topology.rows.masks.now topology.columns.row_word_ptr.now topology.columns.word_indices.now topology.columns.masks.now }
+    ensures { GraphOf topology.entry result }
+{
+    let n = topology.rows.nrows;
+    let rows = side_of(n, topology.rows);
+    let columns = side_of(n, topology.columns);
+    let accepted = Topology { rows, columns };
+    Graph {
+        n,
+        topology: accepted,
     }
 }
 
@@ -101,7 +131,7 @@ fn repeat(
     grown
 }
 
-// A growth as lent, and `times` more with what its checks gave.
+// A growth as lent, and `times` + 1 more with what its checks gave.
 #[tactic(auto, unfolding(crate::specs::Repeated::hops_answer))]
 fn repeated_growth<'a>(
     topology: AbtmDualTopology<'a>,
@@ -120,28 +150,10 @@ fn repeated_growth<'a>(
 {
     match region::grow_undirected_region(topology, mask, hops, region, frontier, scratch) {
         Err(r) => r.into(),
-        Ok(s) => {
+        Ok(_) => {
             let n = topology.rows.nrows;
             let need = mask::inner::words_for(n);
-            let rows = Side {
-                nrows: n,
-                ncols: n,
-                row_word_ptr: topology.rows.row_word_ptr,
-                word_indices: topology.rows.word_indices,
-                masks: topology.rows.masks,
-            };
-            let columns = Side {
-                nrows: n,
-                ncols: n,
-                row_word_ptr: topology.columns.row_word_ptr,
-                word_indices: topology.columns.word_indices,
-                masks: topology.columns.masks,
-            };
-            let accepted = Topology { rows, columns };
-            let graph = Graph {
-                n,
-                topology: accepted,
-            };
+            let graph = graph_of(topology);
             let seeds = Mask {
                 len: n,
                 words: mask.words,
@@ -160,6 +172,7 @@ fn repeated_growth<'a>(
     }
 }
 
+// The value is the count of hops that the growth completed.
 #[tactic(auto, unfolding(crate::specs::Repeated::hops_answer))]
 pub fn hybit_repeated_growth(
     nrows: usize,
@@ -234,7 +247,7 @@ fn repeat_blocks(
     grown
 }
 
-// The same of a field growth.
+// A field growth as lent, and `times` + 1 more with what its checks gave.
 #[tactic(auto, unfolding(crate::specs::Repeated::field_hops_answer))]
 fn repeated_field_growth<'a>(
     topology: AbtmDualTopology<'a>,
@@ -256,28 +269,10 @@ fn repeated_field_growth<'a>(
         topology, layout, mask, hops, region, frontier, scratch,
     ) {
         Err(r) => r.into(),
-        Ok(s) => {
+        Ok(_) => {
             let n = topology.rows.nrows;
             let need = mask::inner::words_for(n);
-            let rows = Side {
-                nrows: n,
-                ncols: n,
-                row_word_ptr: topology.rows.row_word_ptr,
-                word_indices: topology.rows.word_indices,
-                masks: topology.rows.masks,
-            };
-            let columns = Side {
-                nrows: n,
-                ncols: n,
-                row_word_ptr: topology.columns.row_word_ptr,
-                word_indices: topology.columns.word_indices,
-                masks: topology.columns.masks,
-            };
-            let accepted = Topology { rows, columns };
-            let graph = Graph {
-                n,
-                topology: accepted,
-            };
+            let graph = graph_of(topology);
             let blocks = Layout {
                 components: layout.blocks.components,
                 offsets: layout.offsets,
@@ -303,6 +298,7 @@ fn repeated_field_growth<'a>(
     }
 }
 
+// The value is the count of hops that the growth completed.
 #[tactic(auto, unfolding(crate::specs::Repeated::field_hops_answer))]
 pub fn hybit_repeated_field_growth(
     nrows: usize,
@@ -370,7 +366,7 @@ fn repeat_closing(layout: Layout, mask: Mask, times: u64, out: &mut [u64])
     }
 }
 
-// The same of a closing.
+// A closing as lent, and `times` more with what its checks gave.
 #[tactic(auto, unfolding(crate::specs::Repeated::count_answer))]
 fn repeated_closing(
     layout: FieldAwareDofLayout,

@@ -16,8 +16,7 @@ ghost use Rattle.gather.specs.Gather.{gather_check, gather_answer, gather_left, 
 ghost use Rattle.repeated.specs.Repeated.{pairs_answer, sources_answer, count_answer};
 ghost use Rattle.repeated.specs.Views.{Words, SystemHeld, terms_inside};
 
-use crate::{Answer, views};
-use base::Refusal;
+use crate::{Answer, side_of, views};
 use binding::inner::System;
 use csr32::Csr32Matrix;
 use csr32::inner::Matrix;
@@ -27,7 +26,6 @@ use gather::inner::Plan;
 use mask::DofMask;
 use mask::inner::Mask;
 use pattern::inner::Local;
-use side::inner::Side;
 
 // The pattern `times` more, on lists that hold it: they stay as they are.
 fn repeat_pattern(
@@ -67,13 +65,7 @@ fn repeated_pattern<'a>(
         Err(r) => r.into(),
         Ok(s) => {
             let n = topology.rows.nrows;
-            let rows = Side {
-                nrows: n,
-                ncols: n,
-                row_word_ptr: topology.rows.row_word_ptr,
-                word_indices: topology.rows.word_indices,
-                masks: topology.rows.masks,
-            };
+            let rows = side_of(n, topology.rows);
             let region = Mask {
                 len: n,
                 words: mask.words,
@@ -134,8 +126,8 @@ pub fn hybit_repeated_pattern(
     )
 }
 
-// The plan once more, on lists that hold it: they stay as they are. The count of its sources. Lists that are written are no struct: a clause could
-// not name what each is left with.
+// The plan once more, on lists that hold it: they stay as they are. The count of its sources: a plan that the lists hold is not refused, and the arm
+// that answers 0 is proved never taken.
 fn plan_again(
     system: System,
     nodes: &mut [u32],
@@ -158,7 +150,7 @@ fn plan_again(
     }
 }
 
-// The plan `times` more, on lists that hold it: they stay as they are. The count of its sources.
+// The plan `times` more, on lists that hold it: they stay as they are. The count of its sources: of the last plan made, so that none is left out.
 fn repeat_plan(
     system: System,
     first: usize,
@@ -184,7 +176,7 @@ fn repeat_plan(
     terms
 }
 
-// The same of a plan.
+// A plan as lent, and `times` more with what its checks gave.
 #[tactic(auto, unfolding(crate::specs::Repeated::sources_answer))]
 fn repeated_plan<'a>(
     topology: AbtmDualTopology<'a>,
@@ -218,13 +210,7 @@ fn repeated_plan<'a>(
         Err(r) => r.into(),
         Ok(s) => {
             let n = topology.rows.nrows;
-            let rows = Side {
-                nrows: n,
-                ncols: n,
-                row_word_ptr: topology.rows.row_word_ptr,
-                word_indices: topology.rows.word_indices,
-                masks: topology.rows.masks,
-            };
+            let rows = side_of(n, topology.rows);
             let region = Mask {
                 len: n,
                 words: mask.words,

@@ -1,4 +1,5 @@
-// The lists of the C interface as the structs that the calls take: hybit_matrix's are its own, and it is not below this crate.
+// The lists of the C interface as the structs that the calls take. hybit_matrix has functions like these; they are private, as they are no part of what
+// it promises, and this crate links only what its calls run.
 ghost use Rattle.std.specs.Prelude.{◌≡◌};
 
 use csr32::Csr32Matrix;

@@ -18,6 +18,7 @@ use repeated::Answer;
 
 pub mod local;
 
+// The value is the count of hops that the growth completed.
 #[unsafe(no_mangle)]
 pub extern "C" fn hybit_repeated_growth(
     nrows: usize,
@@ -68,6 +69,7 @@ pub extern "C" fn hybit_repeated_growth(
     )
 }
 
+// The value is the count of hops that the growth completed.
 #[unsafe(no_mangle)]
 pub extern "C" fn hybit_repeated_field_growth(
     nrows: usize,

@@ -17,6 +17,11 @@ use records::inner::{List, number_at, put_list};
 use std::io;
 use streams::inner::answer_records;
 
+const RECORD_BYTES: usize = 448;
+
+const ANSWER_BYTES: usize = 168;
+
+// A record's byte names its call: which call is made is data of who wrote the record, and each arm of the matches below is one call by its C name.
 enum WordCall {
     Bits,
     WordIndex,
@@ -88,13 +93,13 @@ impl From<u8> for Call {
 
 // The value of a call that cannot refuse.
 fn put_value(out: &mut [u8], value: u64)
-    requires { length out.old ≡ 168 }
+    requires { length out.old ≡ ANSWER_BYTES }
 {
     put_list(out, 0, &[0, 1, 0, 0, value]);
 }
 
 fn answer_word(word: WordCall, call: &[u8], out: &mut [u8])
-    requires { (length call.now ≡ 448) × (length out.old ≡ 168) }
+    requires { (length call.now ≡ RECORD_BYTES) × (length out.old ≡ ANSWER_BYTES) }
 {
     let index = (number_at(call, 8) % 4294967296) as u32;
     let mask = number_at(call, 16);
@@ -114,7 +119,7 @@ fn answer_word(word: WordCall, call: &[u8], out: &mut [u8])
 }
 
 fn answer_matrix(call: &[u8], out: &mut [u8])
-    requires { (length call.now ≡ 448) × (length out.old ≡ 168) }
+    requires { (length call.now ≡ RECORD_BYTES) × (length out.old ≡ ANSWER_BYTES) }
 {
     let row_ptr: List<u32, 16> = List::read(call, 40, 64);
     let col_idx: List<u32, 16> = List::read(call, 48, 192);
@@ -132,7 +137,7 @@ fn answer_matrix(call: &[u8], out: &mut [u8])
 }
 
 fn read_mask(reading: MaskReading, call: &[u8], out: &mut [u8])
-    requires { (length call.now ≡ 448) × (length out.old ≡ 168) }
+    requires { (length call.now ≡ RECORD_BYTES) × (length out.old ≡ ANSWER_BYTES) }
 {
     let len = number_at(call, 8) as usize;
     let b = number_at(call, 16);
@@ -152,7 +157,7 @@ fn read_mask(reading: MaskReading, call: &[u8], out: &mut [u8])
 }
 
 fn write_indices(call: &[u8], out: &mut [u8])
-    requires { (length call.now ≡ 448) × (length out.old ≡ 168) }
+    requires { (length call.now ≡ RECORD_BYTES) × (length out.old ≡ ANSWER_BYTES) }
 {
     let len = number_at(call, 8) as usize;
     let words: List<u64, 16> = List::read(call, 40, 64);
@@ -162,7 +167,7 @@ fn write_indices(call: &[u8], out: &mut [u8])
 }
 
 fn write_mask(writing: MaskWriting, call: &[u8], out: &mut [u8])
-    requires { (length call.now ≡ 448) × (length out.old ≡ 168) }
+    requires { (length call.now ≡ RECORD_BYTES) × (length out.old ≡ ANSWER_BYTES) }
 {
     let len = number_at(call, 8) as usize;
     let b = number_at(call, 16);
@@ -185,7 +190,7 @@ fn write_mask(writing: MaskWriting, call: &[u8], out: &mut [u8])
 }
 
 fn answer(call: &[u8], out: &mut [u8])
-    requires { (length call.now ≡ 448) × (length out.old ≡ 168) }
+    requires { (length call.now ≡ RECORD_BYTES) × (length out.old ≡ ANSWER_BYTES) }
 {
     match Call::from(call[0]) {
         Call::Word(word) => answer_word(word, call, out),
@@ -200,5 +205,5 @@ fn answer(call: &[u8], out: &mut [u8])
 fn main(rt: HostRuntime) -> io::Result<()> {
     let mut input = rt.reader();
     let mut output = io::writer(&rt);
-    answer_records::<448, 168, _, _, _>(&mut input, &mut output, answer)
+    answer_records::<RECORD_BYTES, ANSWER_BYTES, _, _, _>(&mut input, &mut output, answer)
 }

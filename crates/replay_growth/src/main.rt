@@ -8,11 +8,16 @@ use hybit_matrix::regions::{
     hybit_close_to_field_blocks, hybit_field_block_owners, hybit_grow_field_aware_region,
     hybit_grow_undirected_region, hybit_region_multiplicity, hybit_weight,
 };
-use recorded::inner::{Layout, Recorded, Side};
+use recorded::inner::{Layout, Recorded, Shape, Side};
 use records::inner::{List, number_at, put_list};
 use std::io;
 use streams::inner::answer_records;
 
+const RECORD_BYTES: usize = 2376;
+
+const ANSWER_BYTES: usize = 848;
+
+// Which call is made is data of who wrote the record: each arm of the matches below is one call.
 enum Call {
     Growth,
     Multiplicity,
@@ -38,34 +43,6 @@ impl From<u8> for Call {
 
 // ---- parts of a record
 
-// The numbers of a growth's record.
-#[derive(Clone, Copy)]
-struct Sizes {
-    nrows: usize,
-    ncols: usize,
-    pairs: usize,
-    column_nrows: usize,
-    column_ncols: usize,
-    column_pairs: usize,
-    len: usize,
-    hops: u64,
-}
-
-fn sizes_of(call: &[u8]) -> Sizes
-    requires { length call.now ≡ 2376 }
-{
-    Sizes {
-        nrows: number_at(call, 8) as usize,
-        ncols: number_at(call, 16) as usize,
-        pairs: number_at(call, 24) as usize,
-        column_nrows: number_at(call, 32) as usize,
-        column_ncols: number_at(call, 40) as usize,
-        column_pairs: number_at(call, 48) as usize,
-        len: number_at(call, 56) as usize,
-        hops: number_at(call, 64),
-    }
-}
-
 // The masks that a growth writes.
 #[derive(Drop)]
 struct Masks {
@@ -75,7 +52,7 @@ struct Masks {
 }
 
 fn masks_of(call: &[u8]) -> Masks
-    requires { length call.now ≡ 2376 }
+    requires { length call.now ≡ RECORD_BYTES }
 {
     Masks {
         region: List::read(call, 168, 1640),
@@ -85,7 +62,7 @@ fn masks_of(call: &[u8]) -> Masks
 }
 
 fn put_masks(out: &mut [u8], masks: &Masks)
-    requires { length out.old ≡ 848 }
+    requires { length out.old ≡ ANSWER_BYTES }
 {
     put_list(out, 112, masks.region.as_slice());
     put_list(out, 144, masks.frontier.as_slice());
@@ -95,29 +72,30 @@ fn put_masks(out: &mut [u8], masks: &Masks)
 // ---- growth
 
 fn growth(call: &[u8], out: &mut [u8])
-    requires { (length call.now ≡ 2376) × (length out.old ≡ 848) }
+    requires { (length call.now ≡ RECORD_BYTES) × (length out.old ≡ ANSWER_BYTES) }
 {
-    let n = sizes_of(call);
+    let a = Shape::read(call, 8);
+    let b = Shape::read(call, 32);
     let rows: Side<16> = Side::read(call, 72, 200, 328);
     let columns: Side<16> = Side::read(call, 96, 584, 712);
     let words: List<u64, 4> = List::read(call, 160, 1608);
     let mut masks = masks_of(call);
     hybit_grow_undirected_region(
-        n.nrows,
-        n.ncols,
+        a.nrows,
+        a.ncols,
         rows.ptr.as_slice(),
         rows.words.as_slice(),
         rows.masks.as_slice(),
-        n.pairs,
-        n.column_nrows,
-        n.column_ncols,
+        a.pairs,
+        b.nrows,
+        b.ncols,
         columns.ptr.as_slice(),
         columns.words.as_slice(),
         columns.masks.as_slice(),
-        n.column_pairs,
-        n.len,
+        b.pairs,
+        number_at(call, 56) as usize,
         words.as_slice(),
-        n.hops,
+        number_at(call, 64),
         masks.region.as_mut_slice(),
         masks.frontier.as_mut_slice(),
         masks.scratch.as_mut_slice(),
@@ -127,35 +105,36 @@ fn growth(call: &[u8], out: &mut [u8])
 }
 
 fn field_growth(call: &[u8], out: &mut [u8])
-    requires { (length call.now ≡ 2376) × (length out.old ≡ 848) }
+    requires { (length call.now ≡ RECORD_BYTES) × (length out.old ≡ ANSWER_BYTES) }
 {
-    let n = sizes_of(call);
+    let a = Shape::read(call, 8);
+    let b = Shape::read(call, 32);
     let rows: Side<16> = Side::read(call, 72, 200, 328);
     let columns: Side<16> = Side::read(call, 96, 584, 712);
     let layout = Layout::read(call, 120, 968);
     let words: List<u64, 4> = List::read(call, 160, 1608);
     let mut masks = masks_of(call);
     hybit_grow_field_aware_region(
-        n.nrows,
-        n.ncols,
+        a.nrows,
+        a.ncols,
         rows.ptr.as_slice(),
         rows.words.as_slice(),
         rows.masks.as_slice(),
-        n.pairs,
-        n.column_nrows,
-        n.column_ncols,
+        a.pairs,
+        b.nrows,
+        b.ncols,
         columns.ptr.as_slice(),
         columns.words.as_slice(),
         columns.masks.as_slice(),
-        n.column_pairs,
+        b.pairs,
         layout.kinds.as_slice(),
         layout.ids.as_slice(),
         layout.fields.as_slice(),
         layout.sizes.as_slice(),
         layout.offsets.as_slice(),
-        n.len,
+        number_at(call, 56) as usize,
         words.as_slice(),
-        n.hops,
+        number_at(call, 64),
         masks.region.as_mut_slice(),
         masks.frontier.as_mut_slice(),
         masks.scratch.as_mut_slice(),
@@ -167,7 +146,7 @@ fn field_growth(call: &[u8], out: &mut [u8])
 // ---- blocks
 
 fn closing(call: &[u8], out: &mut [u8])
-    requires { (length call.now ≡ 2376) × (length out.old ≡ 848) }
+    requires { (length call.now ≡ RECORD_BYTES) × (length out.old ≡ ANSWER_BYTES) }
 {
     let layout = Layout::read(call, 120, 968);
     let words: List<u64, 4> = List::read(call, 160, 1608);
@@ -187,7 +166,7 @@ fn closing(call: &[u8], out: &mut [u8])
 }
 
 fn owners(call: &[u8], out: &mut [u8])
-    requires { (length call.now ≡ 2376) × (length out.old ≡ 848) }
+    requires { (length call.now ≡ RECORD_BYTES) × (length out.old ≡ ANSWER_BYTES) }
 {
     let layout = Layout::read(call, 120, 968);
     let dof_owners: List<u32, 16> = List::read(call, 72, 200);
@@ -209,7 +188,7 @@ fn owners(call: &[u8], out: &mut [u8])
 // ---- several regions
 
 fn multiplicity(call: &[u8], out: &mut [u8])
-    requires { (length call.now ≡ 2376) × (length out.old ≡ 848) }
+    requires { (length call.now ≡ RECORD_BYTES) × (length out.old ≡ ANSWER_BYTES) }
 {
     let words: List<u64, 16> = List::read(call, 88, 456);
     let mut counts: List<u32, 80> = List::read(call, 192, 1736);
@@ -224,7 +203,7 @@ fn multiplicity(call: &[u8], out: &mut [u8])
 }
 
 fn weight(call: &[u8], out: &mut [u8])
-    requires { (length call.now ≡ 2376) × (length out.old ≡ 848) }
+    requires { (length call.now ≡ RECORD_BYTES) × (length out.old ≡ ANSWER_BYTES) }
 {
     let words: List<u64, 16> = List::read(call, 88, 456);
     hybit_weight(
@@ -240,7 +219,7 @@ fn weight(call: &[u8], out: &mut [u8])
 // ---- records
 
 fn answer(call: &[u8], out: &mut [u8])
-    requires { (length call.now ≡ 2376) × (length out.old ≡ 848) }
+    requires { (length call.now ≡ RECORD_BYTES) × (length out.old ≡ ANSWER_BYTES) }
 {
     match Call::from(call[0]) {
         Call::Growth => growth(call, out),
@@ -256,5 +235,5 @@ fn answer(call: &[u8], out: &mut [u8])
 fn main(rt: HostRuntime) -> io::Result<()> {
     let mut input = rt.reader();
     let mut output = io::writer(&rt);
-    answer_records::<2376, 848, _, _, _>(&mut input, &mut output, answer)
+    answer_records::<RECORD_BYTES, ANSWER_BYTES, _, _, _>(&mut input, &mut output, answer)
 }

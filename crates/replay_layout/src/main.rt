@@ -14,6 +14,11 @@ use records::inner::{List, number_at, put_list};
 use std::io;
 use streams::inner::answer_records;
 
+const RECORD_BYTES: usize = 856;
+
+const ANSWER_BYTES: usize = 176;
+
+// Which call is made is data of who wrote the record: each arm of the matches below is one call.
 enum Call {
     KindOf,
     New,
@@ -42,7 +47,7 @@ impl From<u8> for Call {
 }
 
 fn answer(call: &[u8], out: &mut [u8])
-    requires { (length call.now ≡ 856) × (length out.old ≡ 176) }
+    requires { (length call.now ≡ RECORD_BYTES) × (length out.old ≡ ANSWER_BYTES) }
 {
     let a = number_at(call, 8);
     let b = number_at(call, 16);
@@ -81,5 +86,5 @@ fn answer(call: &[u8], out: &mut [u8])
 fn main(rt: HostRuntime) -> io::Result<()> {
     let mut input = rt.reader();
     let mut output = io::writer(&rt);
-    answer_records::<856, 176, _, _, _>(&mut input, &mut output, answer)
+    answer_records::<RECORD_BYTES, ANSWER_BYTES, _, _, _>(&mut input, &mut output, answer)
 }

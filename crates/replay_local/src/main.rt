@@ -9,11 +9,16 @@ use hybit_matrix::local::{
     PlanAnswer, hybit_extract_local_submatrix_pattern, hybit_gather_values,
     hybit_prepare_local_numeric_plan,
 };
-use recorded::inner::{Matrix, Recorded, Side};
+use recorded::inner::{Matrix, Recorded, Shape, Side};
 use records::inner::{List, number_at, put_list};
 use std::io;
 use streams::inner::answer_records;
 
+const RECORD_BYTES: usize = 2160;
+
+const ANSWER_BYTES: usize = 880;
+
+// Which call is made is data of who wrote the record: each arm of the matches below is one call.
 enum Call {
     Pattern,
     Plan,
@@ -33,30 +38,6 @@ impl From<u8> for Call {
 
 // ---- parts of a record
 
-// A topology's numbers.
-#[derive(Clone, Copy)]
-struct Sizes {
-    nrows: usize,
-    ncols: usize,
-    pairs: usize,
-    column_nrows: usize,
-    column_ncols: usize,
-    column_pairs: usize,
-}
-
-fn sizes_of(call: &[u8]) -> Sizes
-    requires { length call.now ≡ 2160 }
-{
-    Sizes {
-        nrows: number_at(call, 8) as usize,
-        ncols: number_at(call, 16) as usize,
-        pairs: number_at(call, 24) as usize,
-        column_nrows: number_at(call, 32) as usize,
-        column_ncols: number_at(call, 40) as usize,
-        column_pairs: number_at(call, 48) as usize,
-    }
-}
-
 #[derive(Drop)]
 struct Pattern {
     nodes: List<u32, 16>,
@@ -65,7 +46,7 @@ struct Pattern {
 }
 
 fn pattern_of(call: &[u8]) -> Pattern
-    requires { length call.now ≡ 2160 }
+    requires { length call.now ≡ RECORD_BYTES }
 {
     Pattern {
         nodes: List::read(call, 160, 1392),
@@ -76,7 +57,7 @@ fn pattern_of(call: &[u8]) -> Pattern
 
 // The lists that a call may write are put over their whole room: past a list's length a record has zeros, before the call and after it.
 fn put_pattern(out: &mut [u8], pattern: &Pattern)
-    requires { length out.old ≡ 880 }
+    requires { length out.old ≡ ANSWER_BYTES }
 {
     put_list(out, 112, &pattern.nodes.room);
     put_list(out, 240, &pattern.ptr.room);
@@ -86,26 +67,27 @@ fn put_pattern(out: &mut [u8], pattern: &Pattern)
 // ---- calls
 
 fn answer_pattern(call: &[u8], out: &mut [u8])
-    requires { (length call.now ≡ 2160) × (length out.old ≡ 880) }
+    requires { (length call.now ≡ RECORD_BYTES) × (length out.old ≡ ANSWER_BYTES) }
 {
-    let n = sizes_of(call);
+    let a = Shape::read(call, 8);
+    let b = Shape::read(call, 32);
     let rows: Side<16> = Side::read(call, 80, 208, 336);
     let columns: Side<16> = Side::read(call, 104, 592, 720);
     let words: List<u64, 4> = List::read(call, 152, 1360);
     let mut pattern = pattern_of(call);
     hybit_extract_local_submatrix_pattern(
-        n.nrows,
-        n.ncols,
+        a.nrows,
+        a.ncols,
         rows.ptr.as_slice(),
         rows.words.as_slice(),
         rows.masks.as_slice(),
-        n.pairs,
-        n.column_nrows,
-        n.column_ncols,
+        a.pairs,
+        b.nrows,
+        b.ncols,
         columns.ptr.as_slice(),
         columns.words.as_slice(),
         columns.masks.as_slice(),
-        n.column_pairs,
+        b.pairs,
         number_at(call, 56) as usize,
         words.as_slice(),
         pattern.nodes.as_mut_slice(),
@@ -123,26 +105,27 @@ fn prepared(
     source_ptr: &mut [u32],
     sources: &mut [u32],
 ) -> PlanAnswer
-    requires { length call.now ≡ 2160 }
+    requires { length call.now ≡ RECORD_BYTES }
 {
-    let n = sizes_of(call);
+    let a = Shape::read(call, 8);
+    let b = Shape::read(call, 32);
     let rows: Side<16> = Side::read(call, 80, 208, 336);
     let columns: Side<16> = Side::read(call, 104, 592, 720);
     let matrix = Matrix::read(call, 128, 976);
     let words: List<u64, 4> = List::read(call, 152, 1360);
     hybit_prepare_local_numeric_plan(
-        n.nrows,
-        n.ncols,
+        a.nrows,
+        a.ncols,
         rows.ptr.as_slice(),
         rows.words.as_slice(),
         rows.masks.as_slice(),
-        n.pairs,
-        n.column_nrows,
-        n.column_ncols,
+        a.pairs,
+        b.nrows,
+        b.ncols,
         columns.ptr.as_slice(),
         columns.words.as_slice(),
         columns.masks.as_slice(),
-        n.column_pairs,
+        b.pairs,
         number_at(call, 56) as usize,
         number_at(call, 64) as usize,
         matrix.row_ptr.as_slice(),
@@ -159,7 +142,7 @@ fn prepared(
 }
 
 fn answer_plan(call: &[u8], out: &mut [u8])
-    requires { (length call.now ≡ 2160) × (length out.old ≡ 880) }
+    requires { (length call.now ≡ RECORD_BYTES) × (length out.old ≡ ANSWER_BYTES) }
 {
     let mut pattern = pattern_of(call);
     let mut source_ptr: List<u32, 16> = List::read(call, 184, 1776);
@@ -177,7 +160,7 @@ fn answer_plan(call: &[u8], out: &mut [u8])
 }
 
 fn answer_gather(call: &[u8], out: &mut [u8])
-    requires { (length call.now ≡ 2160) × (length out.old ≡ 880) }
+    requires { (length call.now ≡ RECORD_BYTES) × (length out.old ≡ ANSWER_BYTES) }
 {
     let from = Matrix::read(call, 128, 976);
     let mut gathered: List<f64, 16> = List::read(call, 200, 2032);
@@ -195,7 +178,7 @@ fn answer_gather(call: &[u8], out: &mut [u8])
 // ---- records
 
 fn answer(call: &[u8], out: &mut [u8])
-    requires { (length call.now ≡ 2160) × (length out.old ≡ 880) }
+    requires { (length call.now ≡ RECORD_BYTES) × (length out.old ≡ ANSWER_BYTES) }
 {
     match Call::from(call[0]) {
         Call::Pattern => answer_pattern(call, out),
@@ -208,5 +191,5 @@ fn answer(call: &[u8], out: &mut [u8])
 fn main(rt: HostRuntime) -> io::Result<()> {
     let mut input = rt.reader();
     let mut output = io::writer(&rt);
-    answer_records::<2160, 880, _, _, _>(&mut input, &mut output, answer)
+    answer_records::<RECORD_BYTES, ANSWER_BYTES, _, _, _>(&mut input, &mut output, answer)
 }

@@ -3,7 +3,7 @@
 // made.
 #![tactic(auto)]
 
-ghost use Rattle.std.specs.Prelude.{◌≡◌, ◌+◌, ◌≤◌, length};
+ghost use Rattle.std.specs.Prelude.{◌≡◌, length};
 
 use hybit_matrix::both_sides::{
     hybit_dual_topology_from_csr32, hybit_dual_topology_stats, hybit_dual_topology_validate,
@@ -14,13 +14,18 @@ use hybit_matrix::one_side::{
     hybit_topology_and_not, hybit_topology_from_csr32, hybit_topology_intersection,
     hybit_topology_stats, hybit_topology_union, hybit_topology_validate, hybit_topology_xor,
 };
-use recorded::inner::{Matrix, Recorded, Side};
+use recorded::inner::{Matrix, Recorded, Shape, Side};
 use records::inner::{List, number_at, put_list};
 use std::io;
 use streams::inner::answer_records;
 
+const RECORD_BYTES: usize = 4648;
+
+const ANSWER_BYTES: usize = 3168;
+
 // ---- calls
 
+// A record's byte names its call: which call is made is data of who wrote the record, and each arm of the matches below is one call by its C name.
 enum SetCall {
     Intersection,
     Union,
@@ -74,32 +79,14 @@ impl From<u8> for Call {
 
 // ---- parts of a record
 
-// Rows, columns and pairs of a side, as the record gives them.
-#[derive(Clone, Copy)]
-struct Shape {
-    nrows: usize,
-    ncols: usize,
-    pairs: usize,
-}
-
-fn shape_at(call: &[u8], at: usize) -> Shape
-    requires { at + 24 ≤ length call.now }
-{
-    Shape {
-        nrows: number_at(call, at) as usize,
-        ncols: number_at(call, at + 8) as usize,
-        pairs: number_at(call, at + 16) as usize,
-    }
-}
-
 fn rows_of(call: &[u8]) -> Side<16>
-    requires { length call.now ≡ 4648 }
+    requires { length call.now ≡ RECORD_BYTES }
 {
     Side::read(call, 80, 168, 296)
 }
 
 fn columns_of(call: &[u8]) -> Side<144>
-    requires { length call.now ≡ 4648 }
+    requires { length call.now ≡ RECORD_BYTES }
 {
     Side::read(call, 104, 552, 1704)
 }
@@ -114,7 +101,7 @@ fn lists<const P: usize>(side: &Side<P>) -> (&[u32], &[u32], &[u64]) {
 
 // The first three lists that a call may write.
 fn put_side(out: &mut [u8], side: &Side<16>)
-    requires { length out.old ≡ 3168 }
+    requires { length out.old ≡ ANSWER_BYTES }
 {
     put_list(out, 96, side.ptr.as_slice());
     put_list(out, 224, side.words.as_slice());
@@ -123,21 +110,21 @@ fn put_side(out: &mut [u8], side: &Side<16>)
 
 // ---- one side
 
-// Checks and statistics differ in the call that they make alone: C names each, and each answers a record of its own.
+// Checks and statistics, of one side and of both, differ in the call that they make alone: C names each, and each answers a record of its own.
 
 fn validate(call: &[u8], out: &mut [u8])
-    requires { (length call.now ≡ 4648) × (length out.old ≡ 3168) }
+    requires { (length call.now ≡ RECORD_BYTES) × (length out.old ≡ ANSWER_BYTES) }
 {
-    let a = shape_at(call, 8);
+    let a = Shape::read(call, 8);
     let side = rows_of(call);
     let (ptr, words, masks) = lists(&side);
     hybit_topology_validate(a.nrows, a.ncols, ptr, words, masks, a.pairs).put(out);
 }
 
 fn stats(call: &[u8], out: &mut [u8])
-    requires { (length call.now ≡ 4648) × (length out.old ≡ 3168) }
+    requires { (length call.now ≡ RECORD_BYTES) × (length out.old ≡ ANSWER_BYTES) }
 {
-    let a = shape_at(call, 8);
+    let a = Shape::read(call, 8);
     let side = rows_of(call);
     let (ptr, words, masks) = lists(&side);
     hybit_topology_stats(a.nrows, a.ncols, ptr, words, masks, a.pairs).put(out);
@@ -146,9 +133,9 @@ fn stats(call: &[u8], out: &mut [u8])
 // ---- building from a matrix
 
 fn from_matrix(call: &[u8], out: &mut [u8])
-    requires { (length call.now ≡ 4648) × (length out.old ≡ 3168) }
+    requires { (length call.now ≡ RECORD_BYTES) × (length out.old ≡ ANSWER_BYTES) }
 {
-    let a = shape_at(call, 8);
+    let a = Shape::read(call, 8);
     let matrix = Matrix::read(call, 80, 168);
     let mut rows: Side<16> = Side::read(call, 104, 552, 1704);
     hybit_topology_from_csr32(
@@ -166,9 +153,9 @@ fn from_matrix(call: &[u8], out: &mut [u8])
 }
 
 fn dual_from_matrix(call: &[u8], out: &mut [u8])
-    requires { (length call.now ≡ 4648) × (length out.old ≡ 3168) }
+    requires { (length call.now ≡ RECORD_BYTES) × (length out.old ≡ ANSWER_BYTES) }
 {
-    let a = shape_at(call, 8);
+    let a = Shape::read(call, 8);
     let matrix = Matrix::read(call, 80, 168);
     let mut rows: Side<16> = Side::read(call, 104, 552, 1704);
     let mut columns: Side<144> = Side::read(call, 128, 1960, 3112);
@@ -201,12 +188,12 @@ fn dual_from_matrix(call: &[u8], out: &mut [u8])
 // ---- two sides
 
 fn set_operation(set: SetCall, call: &[u8], out: &mut [u8])
-    requires { (length call.now ≡ 4648) × (length out.old ≡ 3168) }
+    requires { (length call.now ≡ RECORD_BYTES) × (length out.old ≡ ANSWER_BYTES) }
 {
-    let a = shape_at(call, 8);
+    let a = Shape::read(call, 8);
     let first = rows_of(call);
     let (ptr_a, words_a, masks_a) = lists(&first);
-    let b = shape_at(call, 32);
+    let b = Shape::read(call, 32);
     let second = columns_of(call);
     let (ptr_b, words_b, masks_b) = lists(&second);
     let mut side: Side<16> = Side::read(call, 128, 1960, 3112);
@@ -236,12 +223,12 @@ fn set_operation(set: SetCall, call: &[u8], out: &mut [u8])
 }
 
 fn dual_validate(call: &[u8], out: &mut [u8])
-    requires { (length call.now ≡ 4648) × (length out.old ≡ 3168) }
+    requires { (length call.now ≡ RECORD_BYTES) × (length out.old ≡ ANSWER_BYTES) }
 {
-    let a = shape_at(call, 8);
+    let a = Shape::read(call, 8);
     let rows = rows_of(call);
     let (ptr_a, words_a, masks_a) = lists(&rows);
-    let b = shape_at(call, 32);
+    let b = Shape::read(call, 32);
     let columns = columns_of(call);
     let (ptr_b, words_b, masks_b) = lists(&columns);
     hybit_dual_topology_validate(
@@ -252,12 +239,12 @@ fn dual_validate(call: &[u8], out: &mut [u8])
 }
 
 fn dual_stats(call: &[u8], out: &mut [u8])
-    requires { (length call.now ≡ 4648) × (length out.old ≡ 3168) }
+    requires { (length call.now ≡ RECORD_BYTES) × (length out.old ≡ ANSWER_BYTES) }
 {
-    let a = shape_at(call, 8);
+    let a = Shape::read(call, 8);
     let rows = rows_of(call);
     let (ptr_a, words_a, masks_a) = lists(&rows);
-    let b = shape_at(call, 32);
+    let b = Shape::read(call, 32);
     let columns = columns_of(call);
     let (ptr_b, words_b, masks_b) = lists(&columns);
     hybit_dual_topology_stats(
@@ -268,12 +255,12 @@ fn dual_stats(call: &[u8], out: &mut [u8])
 }
 
 fn row_call(row: RowCall, call: &[u8], out: &mut [u8])
-    requires { (length call.now ≡ 4648) × (length out.old ≡ 3168) }
+    requires { (length call.now ≡ RECORD_BYTES) × (length out.old ≡ ANSWER_BYTES) }
 {
-    let a = shape_at(call, 8);
+    let a = Shape::read(call, 8);
     let rows = rows_of(call);
     let (ptr_a, words_a, masks_a) = lists(&rows);
-    let b = shape_at(call, 32);
+    let b = Shape::read(call, 32);
     let second = columns_of(call);
     let (ptr_b, words_b, masks_b) = lists(&second);
     let columns = number_at(call, 56) != 0;
@@ -304,13 +291,14 @@ fn row_call(row: RowCall, call: &[u8], out: &mut [u8])
     .put(out);
 }
 
+// Apart from the other calls on a row, since it answers a record of two numbers.
 fn row_word(call: &[u8], out: &mut [u8])
-    requires { (length call.now ≡ 4648) × (length out.old ≡ 3168) }
+    requires { (length call.now ≡ RECORD_BYTES) × (length out.old ≡ ANSWER_BYTES) }
 {
-    let a = shape_at(call, 8);
+    let a = Shape::read(call, 8);
     let rows = rows_of(call);
     let (ptr_a, words_a, masks_a) = lists(&rows);
-    let b = shape_at(call, 32);
+    let b = Shape::read(call, 32);
     let second = columns_of(call);
     let (ptr_b, words_b, masks_b) = lists(&second);
     let columns = number_at(call, 56) != 0;
@@ -326,7 +314,7 @@ fn row_word(call: &[u8], out: &mut [u8])
 // ---- records
 
 fn answer(call: &[u8], out: &mut [u8])
-    requires { (length call.now ≡ 4648) × (length out.old ≡ 3168) }
+    requires { (length call.now ≡ RECORD_BYTES) × (length out.old ≡ ANSWER_BYTES) }
 {
     match Call::from(call[0]) {
         Call::Validate => validate(call, out),
@@ -345,5 +333,5 @@ fn answer(call: &[u8], out: &mut [u8])
 fn main(rt: HostRuntime) -> io::Result<()> {
     let mut input = rt.reader();
     let mut output = io::writer(&rt);
-    answer_records::<4648, 3168, _, _, _>(&mut input, &mut output, answer)
+    answer_records::<RECORD_BYTES, ANSWER_BYTES, _, _, _>(&mut input, &mut output, answer)
 }

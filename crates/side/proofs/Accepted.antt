@@ -1,62 +1,46 @@
 -- What the check of a side accepts: exactly the sides. Assumes nothing.
 use mathlib.Core.Path.{◌≡◌, refl, sym, ap, ◌∙◌, subst}
-use Rattle.std.specs.Prelude.{Ok, Err, IfOk}
-use Rattle.base.specs.declared.Refusal.TheVariants.{BadTopology}
+use Rattle.std.specs.Prelude.{Result, Ok, Err, IfOk, Some, None as Nothing}
 use mathlib.Core.Logic.{◌⊎◌, inl, inr}
 use mathlib.Core.Bool.{Bool, true, false, not, cond, ◌&&◌, ◌||◌}
 use mathlib.Core.List.{List}
 use Prim.Native.Nat.{ℕ, zero, suc, ◌+◌, ◌-◌, ◌^◌, ◌≤◌, ◌<◌}
 use native.Mathlib.Omega.{arith}
 use native.Mathlib.Nat.{le_refl}
-use borrow.Author.Tests.{leb-true, eqb-true, ltb-false, le-leb, lt-ltb, le-ltb, eq-eqb, ltb-true}
+use borrow.Author.Tests.{leb-true, eqb-true, ltb-false, le-leb, lt-ltb, le-ltb, eq-eqb, ne_eqb, ltb-true}
 use lib.Dec.{T, leb, eqb, ltb, lt→ltb, ltb→lt}
-use lib.ListN.{length, get_or}
-use Rattle.base.specs.Checks.{Check, must, ◌then◌, side_limit, entry_limit}
+use lib.ListN.{length, get_or, take, drop}
+use lib.Seq.{slice, length-slice}
+use Rattle.base.specs.Checks.{must, ◌then◌, side_limit, entry_limit}
 use Rattle.base.specs.Lists.{rising}
 use Rattle.base.specs.Sets.{first_below}
 use Rattle.base.proofs.Bools.{and_left, and_right, and_i, T_of, T_true, or-e, or_l, or_r, eq-or-ne, lt-or-le, T-not-zero, not-zero-T}
 use Rattle.base.proofs.Checks.{passed, both-passed, refused-not-accepted}
-use Rattle.base.proofs.Lists.{pairwise-at, pairwise-i, rise-to, step_of}
+use Rattle.base.proofs.Lists.{part_slice, get_or-slice, pairwise-at, pairwise-i, rise-to, step_of}
 use Rattle.base.proofs.Sets.{None, First, first-at, first-is, first-none}
-use Rattle.side.specs.Check.{limit_check, fault_check, side_room, bits_in, lists_agree, is_word_inside, good_word, row_at, bad_at, words_fault, side_fault, side_check, Rising, IsRows, IsSide}
+use Rattle.side.specs.Check.{limit_check, fault_refusal, fault_check, side_room, bits_in, lists_agree, is_word_inside, good_word, bad_word, row_at, bad_at, words_fault, side_fault, Rising, IsRows, IsSide}
 use Rattle.side.specs.declared.Fault.{Fault}
-use Rattle.side.specs.declared.BadWord.{BadWord}
+use Rattle.side.proofs.Words.{bad-some, bad-none}
 
 -- ---- faults
 
 -- only a side without fault is accepted
-pub sound-only : (f : Fault) → fault_check f ≡ Ok tt → f ≡ Fault.Sound
+pub sound-only : (f : Result Unit Fault) → fault_check f ≡ Ok tt → f ≡ Ok tt
 unfolding fault_check
-sound-only Fault.Sound e = refl
-sound-only Fault.Lists e = absurd (refused-not-accepted BadTopology e)
-sound-only (Fault.Word w) e = absurd (refused-not-accepted BadTopology e)
-sound-only Fault.Disagree e = absurd (refused-not-accepted BadTopology e)
+sound-only (Ok tt) e = refl
+sound-only (Err f) e = absurd (refused-not-accepted (fault_refusal f) e)
 
--- so what is known where there is none is known of an accepted one
-pub if-sound : {P : Type 0} (f : Fault) → (f ≡ Fault.Sound → P) → IfOk (fault_check f) (λ t. P)
-unfolding fault_check
-if-sound Fault.Sound h = h refl
-if-sound Fault.Lists h = tt
-if-sound (Fault.Word w) h = tt
-if-sound Fault.Disagree h = tt
+-- so what is known where there is none
+pub if-sound : {P : Type 0} (r : Result Unit Fault) → (r ≡ Ok tt → P) → IfOk r (λ t. P)
+if-sound (Ok tt) h = h refl
+if-sound (Err f) h = tt
 
--- and what is known at any rate
-pub if-known : {P : Type 0} (r : Check) → P → IfOk r (λ t. P)
-if-known (Ok t) p = p
-if-known (Err e) p = tt
-
-pub sound-accepted : (f : Fault) → f ≡ Fault.Sound → fault_check f ≡ Ok tt
+pub sound-accepted : (f : Result Unit Fault) → f ≡ Ok tt → fault_check f ≡ Ok tt
 unfolding fault_check
 sound-accepted f e = ap fault_check e
 
-pub lists-not-sound : Fault.Lists ≡ Fault.Sound → ⊥
-lists-not-sound e = cc
-
-pub word-not-sound : (w : BadWord) → Fault.Word w ≡ Fault.Sound → ⊥
-word-not-sound w e = cc
-
-pub disagree-not-sound : Fault.Disagree ≡ Fault.Sound → ⊥
-disagree-not-sound e = cc
+pub fault-not-sound : (f : Fault) → ◌≡◌ {A = Result Unit Fault} (Err f) (Ok tt) → ⊥
+fault-not-sound f e = cc
 
 -- ---- the parts of an accepted chain
 
@@ -142,6 +126,23 @@ module _ (nrows : ℕ) (ptr idx masks : List ℕ) (pairs : ℕ) where
 
 -- ---- words
 
+-- a word of a row whose lists are cut out
+pub good-slice : (ncols : ℕ) (idx masks : List ℕ) (lo hi j : ℕ) → lo + j < hi → good_word ncols (slice lo hi idx) (slice lo hi masks) 0 j ≡ good_word ncols idx masks lo (lo + j)
+unfolding good_word
+good-slice ncols idx masks lo hi j h = rw (w, m) (ap (λ (b : Bool). not (eqb (get_or masks (lo + j) 0) 0) && b && is_word_inside ncols (get_or idx (lo + j) 0) (get_or masks (lo + j) 0)) (order (eq-or-ne j 0)))
+  where
+    w : get_or (slice lo hi idx) j 0 ≡ get_or idx (lo + j) 0
+    w = get_or-slice lo hi idx j h
+
+    m : get_or (slice lo hi masks) j 0 ≡ get_or masks (lo + j) 0
+    m = get_or-slice lo hi masks j h
+
+    order : (j ≡ 0) ⊎ (j ≡ 0 → ⊥) → (eqb j 0 || ltb (get_or (slice lo hi idx) (j - 1) 0) (get_or idx (lo + j) 0)) ≡ (eqb (lo + j) lo || ltb (get_or idx (lo + j - 1) 0) (get_or idx (lo + j) 0))
+    order (inl e) = rw (eq-eqb j 0 e, eq-eqb (lo + j) lo (omega (arith, e))) refl
+    order (inr n) =
+        rw (ne_eqb j 0 n, ne_eqb (lo + j) lo (λ q. n (omega (arith, q))))
+        (ap (λ (x : ℕ). ltb x (get_or idx (lo + j) 0)) (get_or-slice lo hi idx (j - 1) (omega arith) ∙ ap (λ (i : ℕ). get_or idx i 0) (omega arith)))
+
 module _ (nrows ncols : ℕ) (ptr idx masks : List ℕ) (m : IsRows nrows ptr idx masks) where
   -- the row of a word
   pub row_is : (r k : ℕ) → r < nrows → get_or ptr r 0 ≤ k → k < get_or ptr (r + 1) 0 → row_at nrows ptr k ≡ r
@@ -157,28 +158,27 @@ module _ (nrows ncols : ℕ) (ptr idx masks : List ℕ) (m : IsRows nrows ptr id
   row_of k h = step_of (λ r. get_or ptr r 0) nrows k m.starts (omega (arith, m.ends))
 
   -- the answer where nothing is bad, and where k is the first bad word
-  pub words-sound : None (bad_at nrows ncols ptr idx masks) (length masks) → Fault.Sound ≡ words_fault nrows ncols ptr idx masks
+  pub words-sound : None (bad_at nrows ncols ptr idx masks) (length masks) → Ok tt ≡ words_fault nrows ncols ptr idx masks
   unfolding words_fault
   words-sound none =
       let e : first_below (length masks) (bad_at nrows ncols ptr idx masks) ≡ length masks = first-none (length masks) (bad_at nrows ncols ptr idx masks) none in
       sym
-      (ap (λ (b : Bool). cond b (Fault.Word (record { row = row_at nrows ptr (first_below (length masks) (bad_at nrows ncols ptr idx masks)); position = first_below (length masks) (bad_at nrows ncols ptr idx masks) })) Fault.Sound)
+      (ap (λ (b : Bool). cond b (Err (Fault.Word (record { row = row_at nrows ptr (first_below (length masks) (bad_at nrows ncols ptr idx masks)); position = first_below (length masks) (bad_at nrows ncols ptr idx masks) }))) (Ok tt))
       (le-ltb _ (length masks) (omega arith)))
 
   pub words-bad : (r k : ℕ) → r < nrows → get_or ptr r 0 ≤ k → k < get_or ptr (r + 1) 0 → get_or ptr (r + 1) 0 ≤ length masks → T (bad_at nrows ncols ptr idx masks k)
-      → None (bad_at nrows ncols ptr idx masks) k → Fault.Word (record { row = r; position = k }) ≡ words_fault nrows ncols ptr idx masks
+      → None (bad_at nrows ncols ptr idx masks) k → Err (Fault.Word (record { row = r; position = k })) ≡ words_fault nrows ncols ptr idx masks
   unfolding words_fault
   words-bad r k h a b u t none =
       let e : first_below (length masks) (bad_at nrows ncols ptr idx masks) ≡ k = first-is (length masks) (bad_at nrows ncols ptr idx masks) k (omega arith) t none in
       sym
-      (ap (λ (b : Bool). cond b (Fault.Word (record { row = row_at nrows ptr (first_below (length masks) (bad_at nrows ncols ptr idx masks)); position = first_below (length masks) (bad_at nrows ncols ptr idx masks) })) Fault.Sound)
+      (ap (λ (b : Bool). cond b (Err (Fault.Word (record { row = row_at nrows ptr (first_below (length masks) (bad_at nrows ncols ptr idx masks)); position = first_below (length masks) (bad_at nrows ncols ptr idx masks) }))) (Ok tt))
       (lt-ltb _ (length masks) (omega arith))
-      ∙ ap (λ (i : ℕ). Fault.Word (record { row = row_at nrows ptr i; position = i })) e
-      ∙ ap (λ (i : ℕ). Fault.Word (record { row = i; position = k })) (row_is r k h a b))
+      ∙ ap (λ (i : ℕ). Err (Fault.Word (record { row = row_at nrows ptr i; position = i }))) e
+      ∙ ap (λ (i : ℕ). Err (Fault.Word (record { row = i; position = k }))) (row_is r k h a b))
 
-  -- the first bad word of row r, where the rows before it have none
-  module _ (r k : ℕ) (h : r < nrows) (none : None (bad_at nrows ncols ptr idx masks) (get_or ptr r 0))
-      (e : k ≡ get_or ptr r 0 + first_below (get_or ptr (r + 1) 0 - get_or ptr r 0) (λ j. not (good_word ncols idx masks (get_or ptr r 0) (get_or ptr r 0 + j)))) where
+  -- row r by its own lists, where the rows before it have no bad word
+  module _ (r : ℕ) (h : r < nrows) (none : None (bad_at nrows ncols ptr idx masks) (get_or ptr r 0)) where
     abbrev lo : ℕ
     lo = get_or ptr r 0
 
@@ -186,36 +186,44 @@ module _ (nrows ncols : ℕ) (ptr idx masks : List ℕ) (m : IsRows nrows ptr id
     hi = get_or ptr (r + 1) 0
 
     abbrev bad : ℕ → Bool
-    bad j = not (good_word ncols idx masks lo (lo + j))
+    bad j = not (good_word ncols (slice lo hi idx) (slice lo hi masks) 0 j)
 
-    f : First (hi - lo) bad (first_below (hi - lo) bad)
-    f = first-at (hi - lo) bad
+    same : (j : ℕ) → j < hi - lo → bad_at nrows ncols ptr idx masks (lo + j) ≡ bad j
+    same j l = bad-is r (lo + j) h (omega arith) (omega arith) ∙ ap not (sym (good-slice ncols idx masks lo hi j (omega arith)))
 
-    same : (i : ℕ) → lo ≤ i → i < hi → bad_at nrows ncols ptr idx masks i ≡ bad (i - lo)
-    same i a b = let s : lo + (i - lo) ≡ i = omega arith in bad-is r i h a b ∙ ap (λ (n : ℕ). not (good_word ncols idx masks lo n)) (sym s)
-
-    pub none-to : (n : ℕ) → n ≤ k → n ≤ hi → None (bad_at nrows ncols ptr idx masks) n
+    none-to : (n : ℕ) → n ≤ hi - lo → None bad n → None (bad_at nrows ncols ptr idx masks) (lo + n)
     none-to n u v i l t = go (lt-or-le i lo)
       where
         go : (i < lo) ⊎ (lo ≤ i) → ⊥
         go (inl a) = none i a t
-        go (inr a) = f.before (i - lo) (omega arith) (subst (λ (x : Bool). T x) (same i a (omega arith)) t)
+        go (inr a) =
+            let s : i ≡ lo + (i - lo) = omega arith in
+            v (i - lo) (omega arith) (subst (λ (x : Bool). T x) (ap (bad_at nrows ncols ptr idx masks) s ∙ same (i - lo) (omega arith)) t)
 
-    pub is-bad : k < hi → T (bad_at nrows ncols ptr idx masks k)
-    is-bad l =
-        let s : k - lo ≡ first_below (hi - lo) bad = omega arith in
-        subst (λ (x : Bool). T x) (sym (same k (omega arith) l ∙ ap bad s)) (f.passes (omega arith))
+    -- what its first bad word says of the whole
+    pub row-some : hi ≤ length masks → (k : ℕ) → bad_word ncols (take (hi - lo) (drop lo idx)) (take (hi - lo) (drop lo masks)) ≡ Some k
+        → (k < hi - lo) × T (bad_at nrows ncols ptr idx masks (lo + k)) × None (bad_at nrows ncols ptr idx masks) (lo + k)
+    row-some u k e =
+        let q = bad-some ncols (slice lo hi idx) (slice lo hi masks) k (rw (part_slice lo hi idx, part_slice lo hi masks) at e) in
+        let l : k < hi - lo = omega (arith, q.0, length-slice lo hi masks u) in
+        (l, subst (λ (x : Bool). T x) (sym (same k l)) q.1, none-to k (omega arith) q.2)
+
+    pub row-none : hi ≤ length masks → bad_word ncols (take (hi - lo) (drop lo idx)) (take (hi - lo) (drop lo masks)) ≡ Nothing → None (bad_at nrows ncols ptr idx masks) hi
+    row-none u e =
+        let q = bad-none ncols (slice lo hi idx) (slice lo hi masks) (rw (part_slice lo hi idx, part_slice lo hi masks) at e) in
+        let s : lo + (hi - lo) ≡ hi = omega (arith, m.rises r h) in
+        subst (λ (n : ℕ). None (bad_at nrows ncols ptr idx masks) n) s (none-to (hi - lo) (omega arith) (rw (length-slice lo hi masks u) at q))
 
   -- without a fault no word is bad
-  pub none-bad : words_fault nrows ncols ptr idx masks ≡ Fault.Sound → None (bad_at nrows ncols ptr idx masks) (length masks)
+  pub none-bad : words_fault nrows ncols ptr idx masks ≡ Ok tt → None (bad_at nrows ncols ptr idx masks) (length masks)
   unfolding words_fault
   none-bad e = go (ltb (first_below (length masks) (bad_at nrows ncols ptr idx masks)) (length masks)) refl e
     where
       k : ℕ
       k = first_below (length masks) (bad_at nrows ncols ptr idx masks)
 
-      go : (b : Bool) → ltb k (length masks) ≡ b → cond b (Fault.Word (record { row = row_at nrows ptr k; position = k })) Fault.Sound ≡ Fault.Sound → None (bad_at nrows ncols ptr idx masks) (length masks)
-      go true t e = absurd (word-not-sound (record { row = row_at nrows ptr k; position = k }) e)
+      go : (b : Bool) → ltb k (length masks) ≡ b → ◌≡◌ {A = Result Unit Fault} (cond b (Err (Fault.Word (record { row = row_at nrows ptr k; position = k }))) (Ok tt)) (Ok tt) → None (bad_at nrows ncols ptr idx masks) (length masks)
+      go true t e = absurd (fault-not-sound (Fault.Word (record { row = row_at nrows ptr k; position = k })) e)
       go false t e =
           let f : First (length masks) (bad_at nrows ncols ptr idx masks) k = first-at (length masks) (bad_at nrows ncols ptr idx masks) in
           λ i l x. f.before i (omega (arith, ltb-false k (length masks) t)) x
@@ -268,16 +276,16 @@ rises-all idx from to h j k a b d = go (k - j) k (omega arith) b d
 -- ---- the whole check
 
 module _ (nrows ncols : ℕ) (ptr idx masks : List ℕ) (pairs : ℕ) where
-  fault-parts : side_fault nrows ncols ptr idx masks pairs ≡ Fault.Sound → (lists_agree nrows ptr idx masks pairs ≡ true) × (words_fault nrows ncols ptr idx masks ≡ Fault.Sound)
+  fault-parts : side_fault nrows ncols ptr idx masks pairs ≡ Ok tt → (lists_agree nrows ptr idx masks pairs ≡ true) × (words_fault nrows ncols ptr idx masks ≡ Ok tt)
   unfolding side_fault
   fault-parts e = go (lists_agree nrows ptr idx masks pairs) refl e
     where
-      go : (b : Bool) → lists_agree nrows ptr idx masks pairs ≡ b → cond b (words_fault nrows ncols ptr idx masks) Fault.Lists ≡ Fault.Sound → (lists_agree nrows ptr idx masks pairs ≡ true) × (words_fault nrows ncols ptr idx masks ≡ Fault.Sound)
+      go : (b : Bool) → lists_agree nrows ptr idx masks pairs ≡ b → cond b (words_fault nrows ncols ptr idx masks) (Err Fault.Lists) ≡ Ok tt → (lists_agree nrows ptr idx masks pairs ≡ true) × (words_fault nrows ncols ptr idx masks ≡ Ok tt)
       go true t e = (t, e)
-      go false t e = absurd (lists-not-sound e)
+      go false t e = absurd (fault-not-sound Fault.Lists e)
 
   -- a side within the limits and without fault
-  pub sound-side : nrows ≤ side_limit → ncols ≤ side_limit → length masks ≤ entry_limit → pairs ≤ entry_limit → ((k : ℕ) → get_or masks k 0 < 2 ^ 64) → side_fault nrows ncols ptr idx masks pairs ≡ Fault.Sound → IsSide nrows ncols ptr idx masks × (pairs ≡ bits_in masks 0 (length masks))
+  pub sound-side : nrows ≤ side_limit → ncols ≤ side_limit → length masks ≤ entry_limit → pairs ≤ entry_limit → ((k : ℕ) → get_or masks k 0 < 2 ^ 64) → side_fault nrows ncols ptr idx masks pairs ≡ Ok tt → IsSide nrows ncols ptr idx masks × (pairs ≡ bits_in masks 0 (length masks))
   sound-side few_rows few_cols few_words few_pairs fits e = (
     record {
       shape = m;
@@ -291,7 +299,7 @@ module _ (nrows ncols : ℕ) (ptr idx masks : List ℕ) (pairs : ℕ) where
     sym count,
   )
     where
-      parts : (lists_agree nrows ptr idx masks pairs ≡ true) × (words_fault nrows ncols ptr idx masks ≡ Fault.Sound)
+      parts : (lists_agree nrows ptr idx masks pairs ≡ true) × (words_fault nrows ncols ptr idx masks ≡ Ok tt)
       parts = fault-parts e
 
       m : IsRows nrows ptr idx masks
@@ -310,18 +318,11 @@ module _ (nrows ncols : ℕ) (ptr idx masks : List ℕ) (pairs : ℕ) where
           yes true f = refl
           yes false f = absurd (f tt)
 
-  pub accepted-side : ((k : ℕ) → get_or masks k 0 < 2 ^ 64) → side_check nrows ncols ptr idx masks pairs ≡ Ok tt → IsSide nrows ncols ptr idx masks × (pairs ≡ bits_in masks 0 (length masks))
-  unfolding side_check
-  accepted-side fits e =
-      let q = both-passed _ _ e in
-      let w = limits_passed nrows ncols idx masks pairs q.0 in
-      sound-side w.few_rows w.few_cols w.few_words w.few_pairs fits (sound-only _ q.1)
-
   -- and conversely
-  pub side-sound : IsSide nrows ncols ptr idx masks → pairs ≡ bits_in masks 0 (length masks) → side_fault nrows ncols ptr idx masks pairs ≡ Fault.Sound
+  pub side-sound : IsSide nrows ncols ptr idx masks → pairs ≡ bits_in masks 0 (length masks) → side_fault nrows ncols ptr idx masks pairs ≡ Ok tt
   unfolding side_fault
   side-sound m e =
-      ap (λ (b : Bool). cond b (words_fault nrows ncols ptr idx masks) Fault.Lists) (agree nrows ptr idx masks pairs m.shape (sym e))
+      ap (λ (b : Bool). cond b (words_fault nrows ncols ptr idx masks) (Err Fault.Lists)) (agree nrows ptr idx masks pairs m.shape (sym e))
       ∙ sym (words-sound nrows ncols ptr idx masks m.shape none)
     where
       none : None (bad_at nrows ncols ptr idx masks) (length masks)
@@ -330,17 +331,6 @@ module _ (nrows ncols : ℕ) (ptr idx masks : List ℕ) (pairs : ℕ) where
           let g : good_word ncols idx masks (get_or ptr q.0 0) k ≡ true =
           good-word ncols idx masks (get_or ptr q.0 0) k (m.used k h) q.2 (λ l. m.rising q.0 q.1 (k - 1) k (omega arith) (omega arith) q.3) (m.inside k h) in
           subst (λ (x : Bool). T x) (bad-is nrows ncols ptr idx masks m.shape q.0 k q.1 q.2 q.3 ∙ ap not g) t
-
-  pub side-accepted : IsSide nrows ncols ptr idx masks → pairs ≡ bits_in masks 0 (length masks) → side_check nrows ncols ptr idx masks pairs ≡ Ok tt
-  unfolding side_check ◌then◌
-  side-accepted m e =
-      rw (limits_pass nrows ncols idx masks pairs (record {
-        few_rows = m.shape.few_rows;
-        few_cols = m.few_cols;
-        few_indices = omega (arith, m.shape.as_many, m.shape.few_words);
-        few_words = m.shape.few_words;
-        few_pairs = omega (arith, m.few_pairs);
-      })) (sound-accepted (side_fault nrows ncols ptr idx masks pairs) (side-sound m e))
 
 -- a side under sizes that are equal to its own
 pub side-as : (nrows ncols nrows' ncols' : ℕ) (ptr idx masks : List ℕ) → nrows ≡ nrows' → ncols ≡ ncols' → IsSide nrows ncols ptr idx masks → IsSide nrows' ncols' ptr idx masks

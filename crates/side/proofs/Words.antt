@@ -1,25 +1,26 @@
 -- The check of one word: whether it stays inside the columns, and the first bad word of a row. Assumes nothing.
 use mathlib.Core.Path.{◌≡◌, sym, ap, ◌∙◌, subst, refl}
 use mathlib.Core.Logic.{◌⊎◌, inl, inr}
-use mathlib.Core.Bool.{Bool, true, false, not, ◌&&◌, ◌||◌, and-true}
+use Rattle.std.specs.Prelude.{Option, Some, None as Nothing}
+use mathlib.Core.Bool.{Bool, true, false, not, cond, ◌&&◌, ◌||◌, and-true}
 use mathlib.Core.List.{List}
 use Prim.Native.Nat.{ℕ, ◌+◌, ◌-◌, ◌*◌, ◌/◌, ◌^◌, ◌≤◌, ◌<◌, ◌%◌}
 use native.Mathlib.Omega.{arith}
-use native.Mathlib.Nat.{lt_of_le_of_lt}
+use native.Mathlib.Nat.{le_refl, lt_of_le_of_lt}
 use native.Mathlib.Decide.{ℕ_discrete}
-use borrow.Author.Tests.{eq-eqb, eqb-true, lt-ltb}
+use borrow.Author.Tests.{eq-eqb, eqb-true, lt-ltb, le-ltb, ltb-false}
 use lib.Dec.{T, eqb, ltb, lt→ltb, ltb→lt, T_not}
-use lib.ListN.{get_or, set}
+use lib.ListN.{length, get_or, set}
 use lib.Pow.{shr_le}
 use lib.Bits.{bit_and, bit_or}
 use Rattle.base.proofs.Bools.{bool-ext, T_false, T_true, T_of, not-T-of, or-e, or_l, or_r, lt-or-le, eq-or-ne, decide}
 use Rattle.base.specs.Sets.{first_below}
-use Rattle.base.proofs.Sets.{every-i, every-e, first-from, none_from}
+use Rattle.base.proofs.Sets.{None, First, every-i, every-e, first-at, first-is, first-none}
 use Rattle.base.specs.Checks.{side_limit}
 use Rattle.word.specs.Bits.{bit_at, word_of}
 use Rattle.word.proofs.Bits.{bit-shr, zero_bit, bit-and}
 use Rattle.word.proofs.Words.{some-bit, bit_past, word_lt, bit_word, bits-ext, and-bitwise}
-use Rattle.side.specs.Check.{is_word_inside, good_word}
+use Rattle.side.specs.Check.{is_word_inside, good_word, bad_word}
 use Rattle.mask.specs.Mask.{in_mask, words_needed, mask_words}
 use Rattle.mask.proofs.Masks.{mask-length, mask-cong, mask-holds, mask_is}
 use Rattle.mask.proofs.Stores.{or-in}
@@ -116,6 +117,9 @@ module _ (n w m : ℕ) (fits : m < 2 ^ 64) (ins : is_word_inside n w m ≡ true)
       ∙ mask-cong n (λ j. in_mask (mask_words n q) j || (eqb (j / 64) w && bit_at m (j % 64))) (λ j. q j || (eqb (j / 64) w && bit_at m (j % 64)))
       (λ j l. ap (λ (t : Bool). t || (eqb (j / 64) w && bit_at m (j % 64))) (mask-holds n q j l))
 
+nothing-some : (k : ℕ) → ◌≡◌ {A = Option ℕ} Nothing (Some k) → ⊥
+nothing-some k e = cc
+
 -- a word that fails one of the three conditions
 module _ (ncols : ℕ) (idx masks : List ℕ) (from k : ℕ) where
   bad : (a b c : Bool) → (a ≡ false) ⊎ ((b ≡ false) ⊎ (c ≡ false)) → T (not (a && b && c))
@@ -147,20 +151,53 @@ module _ (ncols : ℕ) (idx masks : List ℕ) (from k : ℕ) where
   unfolding good_word
   bad-inside e = bad (not (eqb (get_or masks k 0) 0)) (eqb k from || ltb (get_or idx (k - 1) 0) (get_or idx k 0)) (is_word_inside ncols (get_or idx k 0) (get_or masks k 0)) (inr (inr e))
 
--- the first bad word of a row
-module _ (ncols : ℕ) (idx masks : List ℕ) (from to k : ℕ) (h : from ≤ k) (good : (j : ℕ) → from ≤ j → j < k → good_word ncols idx masks from j ≡ true) where
-  none : (i : ℕ) → from ≤ i → i < k → T (not (good_word ncols idx masks from i)) → ⊥
-  none i a b t = not-T-of (not (good_word ncols idx masks from i)) (ap not (good i a b)) t
+-- the first bad word of a row, of which those before k are good
+module _ (ncols : ℕ) (idx masks : List ℕ) where
+  abbrev bad-word : ℕ → Bool
+  bad-word j = not (good_word ncols idx masks 0 j)
 
-  pub good-next : good_word ncols idx masks from k ≡ true → (j : ℕ) → from ≤ j → j < k + 1 → good_word ncols idx masks from j ≡ true
-  good-next e j a b = go (ℕ_discrete j k)
+  abbrev answer : ℕ → Option ℕ
+  answer i = cond (ltb i (length masks)) (Some i) Nothing
+
+  module _ (k : ℕ) (good : (j : ℕ) → j < k → good_word ncols idx masks 0 j ≡ true) where
+    none : None bad-word k
+    none i a t = not-T-of (bad-word i) (ap not (good i a)) t
+
+    pub good-next : good_word ncols idx masks 0 k ≡ true → (j : ℕ) → j < k + 1 → good_word ncols idx masks 0 j ≡ true
+    good-next e j a = go (ℕ_discrete j k)
+      where
+        go : Dec (j ≡ k) → good_word ncols idx masks 0 j ≡ true
+        go (yes d) = ap (good_word ncols idx masks 0) d ∙ e
+        go (no d) = good j (omega arith)
+
+    pub first-bad : k < length masks → T (bad-word k) → Some k ≡ bad_word ncols idx masks
+    unfolding bad_word
+    first-bad l t = sym (ap answer (first-is (length masks) bad-word k l t none) ∙ ap (λ (b : Bool). cond b (Some k) Nothing) (lt-ltb k (length masks) l))
+
+    pub all-good : k ≡ length masks → Nothing ≡ bad_word ncols idx masks
+    unfolding bad_word
+    all-good e =
+        sym (ap answer (first-none (length masks) bad-word (λ i a t. none i (omega arith) t)) ∙ ap (λ (b : Bool). cond b (Some (length masks)) Nothing) (le-ltb (length masks) (length masks) (le_refl (length masks))))
+
+  -- what the answer says of the words
+  first : First (length masks) bad-word (first_below (length masks) bad-word)
+  first = first-at (length masks) bad-word
+
+  pub bad-some : (k : ℕ) → bad_word ncols idx masks ≡ Some k → (k < length masks) × T (bad-word k) × None bad-word k
+  unfolding bad_word
+  bad-some k e = go (ltb (first_below (length masks) bad-word) (length masks)) refl e
     where
-      go : Dec (j ≡ k) → good_word ncols idx masks from j ≡ true
-      go (yes d) = ap (good_word ncols idx masks from) d ∙ e
-      go (no d) = good j a (omega arith)
+      go : (b : Bool) → ltb (first_below (length masks) bad-word) (length masks) ≡ b → cond b (Some (first_below (length masks) bad-word)) Nothing ≡ Some k → (k < length masks) × T (bad-word k) × None bad-word k
+      go true t e =
+          let s : first_below (length masks) bad-word ≡ k = cc in
+          let l : first_below (length masks) bad-word < length masks = ltb→lt _ _ (T_of _ t) in
+          subst (λ (i : ℕ). (i < length masks) × T (bad-word i) × None bad-word i) s (l, first.passes l, first.before)
+      go false t e = absurd (nothing-some k e)
 
-  pub first-bad : k < to → T (not (good_word ncols idx masks from k)) → k ≡ from + first_below (to - from) (λ j. not (good_word ncols idx masks from (from + j)))
-  first-bad l t = first-from (λ j. not (good_word ncols idx masks from j)) from to k h l t none
-
-  pub all-good : k ≡ to → to ≡ from + first_below (to - from) (λ j. not (good_word ncols idx masks from (from + j)))
-  all-good e = none_from (λ j. not (good_word ncols idx masks from j)) from to (omega arith) (λ i a b. none i a (omega arith))
+  pub bad-none : bad_word ncols idx masks ≡ Nothing → None bad-word (length masks)
+  unfolding bad_word
+  bad-none e = go (ltb (first_below (length masks) bad-word) (length masks)) refl e
+    where
+      go : (b : Bool) → ltb (first_below (length masks) bad-word) (length masks) ≡ b → cond b (Some (first_below (length masks) bad-word)) Nothing ≡ Nothing → None bad-word (length masks)
+      go true t e = absurd (nothing-some _ (sym e))
+      go false t e = λ i l. first.before i (omega (arith, ltb-false (first_below (length masks) bad-word) (length masks) t))

@@ -1,8 +1,9 @@
 -- The check of one side: refusal 1, then what `AbtmTopology::validate` asks for, refusal 9. The faults are told apart, in the order lengths,
--- pointers and pair count, then words; `fault_check` gives the number of each.
+-- pointers and pair count, then words; `fault_refusal` gives the number of each.
 use Rattle.std.specs.Prelude.{◌≡◌, Bool, true, not, cond, ◌&&◌, ◌||◌, List, ℕ, ◌+◌, ◌-◌, ◌*◌, ◌^◌, ◌≤◌, ◌<◌, eqb, leb, ltb, length, get_or}
-use Rattle.std.specs.Prelude.{Ok, Err}
+use Rattle.std.specs.Prelude.{Result, Ok, Err, Option, Some, None}
 use Rattle.base.specs.Checks.{Check}
+use Rattle.base.specs.declared.Refusal.{Refusal}
 use Rattle.base.specs.declared.Refusal.TheVariants.{OverLimit, BadTopology, ListTooShort}
 use Rattle.base.specs.Checks.{must, ◌then◌, side_limit, entry_limit}
 use Rattle.base.specs.Lists.{rising}
@@ -19,12 +20,16 @@ limit_check nrows ncols idx masks pairs =
     then must (leb (length masks) entry_limit) OverLimit
     then must (leb pairs entry_limit) OverLimit
 
--- the number of each fault
-unfoldable pub fault_check : Fault → Check
-fault_check Fault.Sound = (Ok tt)
-fault_check Fault.Lists = Err BadTopology
-fault_check (Fault.Word w) = Err BadTopology
-fault_check Fault.Disagree = Err BadTopology
+-- the refusal of each fault
+abbrev pub fault_refusal : Fault → Refusal
+fault_refusal Fault.Lists = BadTopology
+fault_refusal (Fault.Word w) = BadTopology
+fault_refusal Fault.Disagree = BadTopology
+
+-- and of a search for one, which finds none or the first
+unfoldable pub fault_check : Result Unit Fault → Check
+fault_check (Ok _) = Ok tt
+fault_check (Err f) = Err (fault_refusal f)
 
 -- the set bits of the masks from..to
 unfoldable pub bits_in : List ℕ → ℕ → ℕ → ℕ
@@ -51,6 +56,10 @@ good_word ncols idx masks from k =
     && (eqb k from || ltb (get_or idx (k - 1) 0) (get_or idx k 0))
     && is_word_inside ncols (get_or idx k 0) (get_or masks k 0)
 
+-- the place of the first bad word of a row that has the lists to itself, or none
+unfoldable pub bad_word : ℕ → List ℕ → List ℕ → Option ℕ
+bad_word ncols idx masks = let k = first_below (length masks) (λ j. not (good_word ncols idx masks 0 j)) in cond (ltb k (length masks)) (Some k) None
+
 -- the row of word k: the first that ends past it
 abbrev pub row_at : ℕ → List ℕ → ℕ → ℕ
 row_at nrows ptr k = first_below nrows (λ r. ltb k (get_or ptr (r + 1) 0))
@@ -59,13 +68,13 @@ abbrev pub bad_at : ℕ → ℕ → List ℕ → List ℕ → List ℕ → ℕ �
 bad_at nrows ncols ptr idx masks k = not (good_word ncols idx masks (get_or ptr (row_at nrows ptr k) 0) k)
 
 -- the first bad word, if there is one
-unfoldable pub words_fault : ℕ → ℕ → List ℕ → List ℕ → List ℕ → Fault
+unfoldable pub words_fault : ℕ → ℕ → List ℕ → List ℕ → List ℕ → Result Unit Fault
 words_fault nrows ncols ptr idx masks =
     let k = first_below (length masks) (bad_at nrows ncols ptr idx masks) in
-    cond (ltb k (length masks)) (Fault.Word (record { row = row_at nrows ptr k; position = k })) Fault.Sound
+    cond (ltb k (length masks)) (Err (Fault.Word (record { row = row_at nrows ptr k; position = k }))) (Ok tt)
 
-unfoldable pub side_fault : ℕ → ℕ → List ℕ → List ℕ → List ℕ → ℕ → Fault
-side_fault nrows ncols ptr idx masks pairs = cond (lists_agree nrows ptr idx masks pairs) (words_fault nrows ncols ptr idx masks) Fault.Lists
+unfoldable pub side_fault : ℕ → ℕ → List ℕ → List ℕ → List ℕ → ℕ → Result Unit Fault
+side_fault nrows ncols ptr idx masks pairs = cond (lists_agree nrows ptr idx masks pairs) (words_fault nrows ncols ptr idx masks) (Err Fault.Lists)
 
 -- a side: 1, 9
 unfoldable pub side_check : ℕ → ℕ → List ℕ → List ℕ → List ℕ → ℕ → Check

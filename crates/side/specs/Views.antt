@@ -3,7 +3,8 @@ use Rattle.std.specs.Prelude.{◌≡◌, Bool, ℕ, ◌≤◌, length}
 use Rattle.base.specs.Checks.{Check, side_limit, entry_limit}
 use Rattle.side.specs.declared.AbtmTopology.{AbtmTopology}
 use Rattle.side.specs.declared.inner.Side.{Side}
-use Rattle.side.specs.Side.{side_holds}
+use Rattle.side.specs.declared.inner.RowWords.{RowWords}
+use Rattle.side.specs.Side.{row_holds, side_holds}
 use Rattle.side.specs.Check.{side_check, bits_in, IsSide}
 
 -- 1, 9
@@ -17,6 +18,10 @@ holds t = side_holds t.row_word_ptr.now t.word_indices.now t.masks.now
 abbrev pub pairs : Side → ℕ → ℕ → Bool
 pairs s = side_holds s.row_word_ptr.now s.word_indices.now s.masks.now
 
+-- the row has column c
+abbrev pub held : RowWords → ℕ → Bool
+held r = row_holds r.word_indices.now r.masks.now 0 (length r.masks.now)
+
 -- it is within the limits of refusal 1
 abbrev pub WithinLimits : AbtmTopology → Type 0
 WithinLimits t = (t.nrows ≤ side_limit) × (t.ncols ≤ side_limit) × (length t.masks.now ≤ entry_limit) × (t.structural_nnz ≤ entry_limit)
@@ -25,3 +30,8 @@ WithinLimits t = (t.nrows ≤ side_limit) × (t.ncols ≤ side_limit) × (length
 abbrev pub SoundSide : AbtmTopology → Type 0
 SoundSide t =
     IsSide t.nrows t.ncols t.row_word_ptr.now t.word_indices.now t.masks.now × (t.structural_nnz ≡ bits_in t.masks.now 0 (length t.masks.now))
+
+-- the lent side as it was accepted
+abbrev pub AcceptedFrom : AbtmTopology → Side → Type 0
+AcceptedFrom t s =
+    (s.nrows ≡ t.nrows) × (s.ncols ≡ t.ncols) × (s.row_word_ptr ≡ t.row_word_ptr) × (s.word_indices ≡ t.word_indices) × (s.masks ≡ t.masks)

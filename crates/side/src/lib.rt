@@ -3,10 +3,9 @@
 #![tactic(auto)]
 
 ghost use Rattle.std.specs.Prelude.{◌≡◌, IfOk};
-ghost use Rattle.side.specs.Check.{fault_check};
+ghost use Rattle.side.specs.Check.{fault_refusal};
 
 use base::Refusal;
-use word::AbtmTopologyWord;
 
 pub mod inner;
 
@@ -38,22 +37,17 @@ pub struct SideCounts {
 // The first fault of a side or of two: lengths, pointers or pair count of a side; a word; sides that disagree.
 #[derive(Clone, Copy)]
 pub enum Fault {
-    Sound,
     Lists,
     Word(BadWord),
     Disagree,
 }
 
-impl Fault {
-    #[tactic(auto, unfolding(crate::specs::Check::fault_check))]
-    pub fn check(self) -> Result<(), Refusal>
-        ensures { result ≡ fault_check self }
-    {
-        match self {
-            Fault::Sound => Ok(()),
-            Fault::Lists => Err(Refusal::BadTopology),
-            Fault::Word(_) => Err(Refusal::BadTopology),
-            Fault::Disagree => Err(Refusal::BadTopology),
+impl From<Fault> for Refusal {
+    ghost from_gives = { λ f r. r ≡ fault_refusal f };
+
+    fn from(fault: Fault) -> Refusal {
+        match fault {
+            Fault::Lists | Fault::Word(_) | Fault::Disagree => Refusal::BadTopology,
         }
     }
 }
@@ -66,6 +60,7 @@ impl AbtmTopology<'_> {
         ensures accepted { IfOk result (λ t. SoundSide self.entry) }
     {
         self.check_limits()?;
-        self.fault().check()
+        self.fault()?;
+        Ok(())
     }
 }

@@ -1,11 +1,12 @@
 -- One row of the result: the merge of the two sides' rows is a row of the pairs under the operation. Assumes nothing.
-use Rattle.std.proofs.Common.{◌≡◌, ap, ◌∙◌, sym, ◌⊎◌, inl, inr, Bool, false, List, ℕ, ◌+◌, ◌-◌, ◌≤◌, ◌<◌, arith, length, get_or}
+use Rattle.std.proofs.Common.{◌≡◌, ap, ◌∙◌, sym, ◌⊎◌, inl, inr, Bool, false, List, ℕ, ◌+◌, ◌-◌, ◌≤◌, ◌<◌, arith, length, get_or, le_refl}
 use Rattle.std.proofs.Math.Dec.{T}
 use lib.Seq.{length-slice}
 use Rattle.base.specs.Checks.{entry_limit}
 use Rattle.side.specs.Side.{side_holds}
 use Rattle.side.specs.Check.{IsSide}
-use Rattle.side.specs.Row.{NewRow}
+use Rattle.side.specs.Row.{IsWords, NewRow}
+use Rattle.side.proofs.AtRow.{long, words-row}
 use Rattle.side.proofs.Rows.{words-few, row_words}
 use Rattle.side.proofs.Sides.{end-le, end-in, own, held-col}
 use Rattle.side_sets.specs.Sets.{pairwise_pairs}
@@ -23,6 +24,9 @@ own_at {nrows} {ncols} {ptr} {idx} {masks} m r h = record {
   masks_long = end-le nrows ptr idx masks m.shape (r + 1) (omega arith);
   row = own nrows ncols ptr idx masks m r h;
 }
+
+pub own_words : {ncols : ℕ} {idx masks : List ℕ} → IsWords ncols idx masks → OwnRow idx masks 0 (length masks)
+own_words m = record { order = omega arith; words_long = long _ _ _ m; masks_long = le_refl _; row = words-row _ _ _ m }
 
 module _ (f : Bool → Bool → Bool) (none : f false false ≡ false) {nrows ncols : ℕ} {left-ptr left left-masks right-ptr right right-masks : List ℕ}
     (u : IsSide nrows ncols left-ptr left left-masks) (v : IsSide nrows ncols right-ptr right right-masks) (r : ℕ) (h : r < nrows) where
@@ -53,7 +57,7 @@ module _ (f : Bool → Bool → Bool) (none : f false false ≡ false) {nrows nc
       row = g.row;
     }
 
-    -- few enough to count
-    pub row-few : to' ≤ length idx' → to' ≤ length masks' → to' - to ≤ entry_limit
-    row-few hi hm =
-        omega (arith, sym (length-slice to to' idx' hi) ∙ ap length (row_words (S r) ncols idx' masks' to to' g.row g.low hi hm small), words-few ncols (S r), u.few_cols)
+  -- few enough to count
+  pub row-few : {idx masks idx' masks' : List ℕ} {to to' most : ℕ} → NewRow (S r) idx masks idx' masks' to to' most → to' ≤ length idx' → to' ≤ length masks' → to' - to ≤ entry_limit
+  row-few {idx' = idx'} {masks' = masks'} {to = to} {to' = to'} g hi hm =
+      omega (arith, sym (length-slice to to' idx' hi) ∙ ap length (row_words (S r) ncols idx' masks' to to' g.row g.low hi hm small), words-few ncols (S r), u.few_cols)

@@ -1,16 +1,16 @@
 // The work, for callers that have checked: no part of the API.
-ghost use Rattle.std.specs.Prelude.{◌≡◌, ◌+◌, ◌-◌, ◌≤◌, ◌<◌, length};
+ghost use Rattle.std.specs.Prelude.{◌≡◌, ◌+◌, ◌≤◌, ◌<◌, length};
 ghost use Rattle.base.specs.Lists.{over, over_with_zeros};
 ghost use Rattle.word.specs.Answers.{on};
-ghost use Rattle.side.specs.Side.{side_ptr, side_words, side_masks, side_counts, row_holds};
+ghost use Rattle.side.specs.Side.{side_ptr, side_words, side_masks, side_counts};
 ghost use Rattle.side.specs.Check.{IsSide};
-ghost use Rattle.side.specs.Views.{pairs};
+ghost use Rattle.side.specs.Views.{pairs, held};
 ghost use Rattle.side.specs.Row.{NewRow};
 ghost use Rattle.side_sets.specs.Sets.{pairwise_pairs};
-ghost use Rattle.side_sets.specs.Merge.{OwnRow, Next, taken_at};
+ghost use Rattle.side_sets.specs.Merge.{Next, taken_at};
 
 use side::SideCounts;
-use side::inner::Side;
+use side::inner::{RowWords, Side};
 use word::Operation;
 
 // A word's mask in a row, 0 where the row does not have it, and the place of the row's next word.
@@ -20,39 +20,28 @@ struct Taken {
     next: usize,
 }
 
-// The smaller of the next words of two rows, of which one at least has a word left.
-fn next_word(
-    words_a: &[u32],
-    a: usize,
-    a_end: usize,
-    words_b: &[u32],
-    b: usize,
-    b_end: usize,
-) -> u32
-    requires { (a ≤ a_end) × (a_end ≤ length words_a.now) × (b ≤ b_end) × (b_end ≤ length words_b.now) × (a + b < a_end + b_end) }
-    ensures { Next words_a.now a a_end words_b.now b b_end result }
+// The smaller of the next words of two rows, of which one at least has a word left. Here and in `take` a place goes with the list, and not the list's
+// rest: what is known of a row's words is known by their places.
+fn next_word(words_a: &[u32], i: usize, words_b: &[u32], j: usize) -> u32
+    requires { (i ≤ length words_a.now) × (j ≤ length words_b.now) × (i + j < length words_a.now + length words_b.now) }
+    ensures { Next words_a.now i (length words_a.now) words_b.now j (length words_b.now) result }
 {
-    if b >= b_end {
-        return words_a[a];
+    if j >= words_b.len() {
+        return words_a[i];
     }
-    if a >= a_end {
-        return words_b[b];
+    if i >= words_a.len() {
+        return words_b[j];
     }
-    let left = words_a[a];
-    let right = words_b[b];
-    if left < right {
-        return left;
-    }
-    right
+    words_a[i].min(words_b[j])
 }
 
-// What the row whose words stand at k.., before `end`, has for a word.
+// What a row has for a word, of its words from place k on.
 #[tactic(auto, unfolding(crate::specs::Merge::taken_at))]
-fn take(words: &[u32], masks: &[u64], k: usize, end: usize, word: u32) -> Taken
-    requires { (end ≤ length words.now) × (end ≤ length masks.now) }
-    ensures { result ≡ taken_at words.now masks.now k end word }
+fn take(words: &[u32], masks: &[u64], k: usize, word: u32) -> Taken
+    requires { length words.now ≡ length masks.now }
+    ensures { result ≡ taken_at words.now masks.now k (length words.now) word }
 {
-    if k >= end {
+    if k >= words.len() {
         return Taken { mask: 0, next: k };
     }
     if words[k] != word {
@@ -64,33 +53,33 @@ fn take(words: &[u32], masks: &[u64], k: usize, end: usize, word: u32) -> Taken
     }
 }
 
-// The row of the columns under the operation of two rows, from place `from` on: a merge of their words. Answers where it ends.
+// The row of the columns under the operation of two rows, from place `from` on: a merge, which walks the words of both rows by place. (The lesser
+// of the next two words is wanted before either is taken, and with two peekable iterators each turn would ask both as here.) Answers where it ends.
+// The rows' lists are taken out of their structs, since the loop writes to lists, and would read the structs again after each write.
 fn combine_row(
-    words_a: &[u32],
-    masks_a: &[u64],
-    a_from: usize,
-    a_end: usize,
-    words_b: &[u32],
-    masks_b: &[u64],
-    b_from: usize,
-    b_end: usize,
+    a: RowWords,
+    b: RowWords,
     op: Operation,
     from: usize,
     word_indices: &mut [u32],
     masks: &mut [u64],
 ) -> usize
-    requires { OwnRow words_a.now masks_a.now a_from a_end × OwnRow words_b.now masks_b.now b_from b_end × (from + (a_end - a_from) + (b_end - b_from) ≤ length word_indices.old) × (from + (a_end - a_from) + (b_end - b_from) ≤ length masks.old) }
-    ensures { NewRow (λ c. on op (row_holds words_a.now masks_a.now a_from a_end c) (row_holds words_b.now masks_b.now b_from b_end c)) word_indices.old masks.old word_indices.new masks.new from result (from + (a_end - a_from) + (b_end - b_from)) }
+    requires { (from + length a.masks.now + length b.masks.now ≤ length word_indices.old) × (from + length a.masks.now + length b.masks.now ≤ length masks.old) }
+    ensures { NewRow (λ c. on op (held a.entry c) (held b.entry c)) word_indices.old masks.old word_indices.new masks.new from result (from + length a.entry.masks.now + length b.entry.masks.now) }
 {
-    let mut a = a_from;
-    let mut b = b_from;
+    let words_a = a.word_indices;
+    let masks_a = a.masks;
+    let words_b = b.word_indices;
+    let masks_b = b.masks;
+    let mut i = 0;
+    let mut j = 0;
     let mut to = from;
-    while a + b < a_end + b_end {
-        let word = next_word(words_a, a, a_end, words_b, b, b_end);
-        let left = take(words_a, masks_a, a, a_end, word);
-        let right = take(words_b, masks_b, b, b_end, word);
-        a = left.next;
-        b = right.next;
+    while i + j < words_a.len() + words_b.len() {
+        let word = next_word(words_a, i, words_b, j);
+        let left = take(words_a, masks_a, i, word);
+        let right = take(words_b, masks_b, j, word);
+        i = left.next;
+        j = right.next;
         let mask = op.apply(left.mask, right.mask);
         if mask == 0 {
             continue;
@@ -122,20 +111,7 @@ pub fn combine(
     let mut to: usize = 0;
     let mut pairs: u64 = 0;
     for row in 0..a.nrows {
-        let end = combine_row(
-            a.word_indices,
-            a.masks,
-            a.row_word_ptr[row] as usize,
-            a.row_word_ptr[row + 1] as usize,
-            b.word_indices,
-            b.masks,
-            b.row_word_ptr[row] as usize,
-            b.row_word_ptr[row + 1] as usize,
-            op,
-            to,
-            word_indices,
-            masks,
-        );
+        let end = combine_row(a.row(row), b.row(row), op, to, word_indices, masks);
         pairs += side::inner::count_bits(masks, to, end) as u64;
         row_word_ptr[row + 1] = end as u32;
         to = end;

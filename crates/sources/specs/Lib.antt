@@ -1,3 +1,4 @@
 pub mod Sources
 pub mod Steps
 pub mod Slots
+pub mod Views

@@ -1,6 +1,6 @@
 -- What a text says, by document 01: numbers have no leading zero, and a larger one than the most is none; lists use commas, an empty list is an
 -- empty value; a line has its key and ends in a newline.
-use Rattle.std.specs.Prelude.{Bool, false, not, cond, ◌&&◌, List, [], ◌∷◌, map, ℕ, zero, suc, ◌+◌, ◌-◌, ◌*◌, eqb, leb, ltb, length, take, drop}
+use Rattle.std.specs.Prelude.{Bool, false, not, cond, ◌&&◌, List, [], ◌∷◌, map, ℕ, zero, suc, ◌+◌, ◌-◌, ◌*◌, ◌≤◌, eqb, leb, ltb, length, take, drop}
 use Rattle.std.specs.Prelude.{Option}
 use Rattle.std.specs.Bool.{then_some}
 use Rattle.base.specs.Lists.{every, is_in, same_list}
@@ -21,6 +21,10 @@ value_from v (d ∷ ds) = value_from (10 * v + (d - 48)) ds
 unfoldable pub leading_zero : List ℕ → Bool
 leading_zero [] = false
 leading_zero (d ∷ ds) = eqb d 48 && ltb 0 (length ds)
+
+-- a number of one digit is at most `most`
+abbrev pub DigitFits : ℕ → Type 0
+DigitFits most = 9 ≤ most
 
 -- the bytes are a number of at most `most`: digits, one at least, no leading zero
 unfoldable pub is_number : ℕ → List ℕ → Bool

@@ -4,9 +4,10 @@ ghost use Rattle.std.specs.Bool.{then_some};
 ghost use Rattle.std.proofs.Common.{rules};
 ghost use Rattle.base.specs.Lists.{every, is_in, over};
 ghost use Rattle.text_writing.specs.Text.{newline};
-ghost use Rattle.text_reading.specs.Reading.{is_digit, value_from, number_read, before, behind, list_of, list_read, is_line, value_of, number_found, list_found};
+ghost use Rattle.text_reading.specs.Reading.{DigitFits, is_digit, value_from, number_read, before, behind, list_of, list_read, is_line, value_of, number_found, list_found};
 
-// How wide the numbers of a list are: the most that one holds, and a number as one of them.
+// How wide the numbers of a list are: the most that one holds, and a number up to it as one of them. `records::Element` has an `of` too, which takes
+// any number and makes floats too, which have no most; neither crate stands on the other. `base::Number` compares a number, and makes none.
 pub trait Width {
     ghost MOST: { ℕ };
 
@@ -18,7 +19,7 @@ pub trait Width {
         requires { x ≤ MOST }
         ensures { result ≡ made x };
 
-    ghost digit: { 9 ≤ MOST };
+    ghost digit: { DigitFits MOST };
 }
 
 impl Width for u32 {
@@ -60,9 +61,10 @@ fn cut(bytes: &[u8], byte: u8) -> (&[u8], Option<&[u8]>)
     }
 }
 
-// The number of the digits, leading zeros let through. One past the most is told before it is made, so nothing wraps.
+// The number of the digits, leading zeros let through. One past the most is told before it is made, so nothing wraps. (The library's `parse` takes a
+// text, which these bytes need not be, and lets a plus sign through.)
 fn read_digits(bytes: &[u8], most: u64) -> Option<u64>
-    requires { 9 ≤ most }
+    requires { DigitFits most }
     ensures { result ≡ then_some (every is_digit bytes.now && leb (value_from 0 bytes.now) most) (value_from 0 bytes.now) }
 {
     let mut value: u64 = 0;
@@ -70,7 +72,7 @@ fn read_digits(bytes: &[u8], most: u64) -> Option<u64>
         if !b.is_ascii_digit() {
             return None;
         }
-        let digit = (*b - 48) as u64;
+        let digit = (*b - b'0') as u64;
         if value > (most - digit) / 10 {
             return None;
         }
@@ -80,13 +82,13 @@ fn read_digits(bytes: &[u8], most: u64) -> Option<u64>
 }
 
 pub fn read_number(bytes: &[u8], most: u64) -> Option<u64>
-    requires { 9 ≤ most }
+    requires { DigitFits most }
     ensures { result ≡ number_read most bytes.now }
 {
     if bytes.len() == 0 {
         return None;
     }
-    if bytes[0] == 48 {
+    if bytes[0] == b'0' {
         if 1 < bytes.len() {
             return None;
         }
@@ -112,10 +114,11 @@ pub fn read_list<T: Width + Drop>(bytes: &[u8], list: &mut [T]) -> Option<usize>
         return Some(0);
     }
     let mut good = true;
+    // The fields are counted as they are read: their count is answered, and no iterator tells it behind the last without a pass of its own.
     let mut count: usize = 0;
     let mut left = Some(bytes);
     while let Some(part) = left {
-        let (field, behind) = cut(part, 44);
+        let (field, behind) = cut(part, b',');
         let number = read_number(field, T::MOST);
         good &= number.is_some();
         store(list, count, T::of(number.unwrap_or(0)));
@@ -149,7 +152,7 @@ fn read_line<'a>(text: &'a [u8], key: &[u8]) -> Line<'a>
     ensures value { result.value.now ≡ value_of key.now text.now }
     ensures rest { result.rest.now ≡ behind newline text.now }
 {
-    let (line, rest) = cut(text, 10);
+    let (line, rest) = cut(text, b'\n');
     let from = key.len().min(line.len());
     Line {
         good: rest.is_some() & line.starts_with(key),
@@ -160,7 +163,7 @@ fn read_line<'a>(text: &'a [u8], key: &[u8]) -> Line<'a>
 
 // The number of the first line, if it is a line of the key with one, and the text behind it.
 pub fn number_line<'a>(text: &'a [u8], key: &[u8], most: u64) -> (Option<u64>, &'a [u8])
-    requires { 9 ≤ most }
+    requires { DigitFits most }
     ensures number { result.0 ≡ number_found key.now most text.now }
     ensures rest { result.1.now ≡ behind newline text.now }
 {

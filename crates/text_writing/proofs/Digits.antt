@@ -1,9 +1,9 @@
 -- The decimal digits of a number: one more at the end for each division by 10, at least one and at most 20. Assumes nothing.
-use mathlib.Core.Path.{◌≡◌, sym, ap, ◌∙◌}
+use mathlib.Core.Path.{◌≡◌, refl, sym, ap, ◌∙◌}
 use mathlib.Core.Bool.{Bool, cond}
-use mathlib.Core.List.{List, [], ◌∷◌, ◌++◌}
+use mathlib.Core.List.{List, [], ◌∷◌, ◌++◌, append_assoc}
 use mathlib.Core.Logic.{◌⊎◌, inl, inr}
-use Prim.Native.Nat.{ℕ, zero, suc, ◌+◌, ◌*◌, ◌/◌, ◌%◌, ◌^◌, ◌≤◌, ◌<◌}
+use Prim.Native.Nat.{ℕ, zero, suc, ◌+◌, ◌-◌, ◌*◌, ◌/◌, ◌%◌, ◌^◌, ◌≤◌, ◌<◌}
 use native.Mathlib.Nat.{pow-suc, one-le-pow, not-suc-le-zero}
 use native.Mathlib.Omega.{arith}
 use borrow.Author.Tests.{lt-ltb, le-ltb}
@@ -78,3 +78,18 @@ length-decimal (suc k) n lo hi u =
     let q : 1 ≤ 10 ^ k = one-le-pow k 10 (omega arith) in
     let l : 10 ^ suc k ≤ n = lo (omega arith) in
     omega (arith, length_more n (omega arith) u, length-decimal k (n / 10) (λ z. omega arith) (omega arith) (omega arith))
+
+-- the last digit of those that are left is taken, if any is: `rest` of the whole stands before what is put
+pub digit-turn : (left : ℕ) (rest put whole : List ℕ) (at len : ℕ) → left < 10 ^ 20 → len < at → (rest ≡ decimal left) ⊎ (rest ≡ []) → at ≡ len + length rest → whole ≡ rest ++ put
+    → (r : List ℕ) × ((r ≡ decimal (left / 10)) ⊎ (r ≡ [])) × (at - 1 ≡ len + length r) × (whole ≡ r ++ (digit (left % 10) ∷ put))
+digit-turn left rest put whole at len u some is e w = go is (lt-or-le left 10)
+  where
+    go : (rest ≡ decimal left) ⊎ (rest ≡ []) → (left < 10) ⊎ (10 ≤ left) → (r : List ℕ) × ((r ≡ decimal (left / 10)) ⊎ (r ≡ [])) × (at - 1 ≡ len + length r) × (whole ≡ r ++ (digit (left % 10) ∷ put))
+    go (inr n) b = absurd (omega (arith, e, ap length n))
+    go (inl n) (inl a) =
+        let one : rest ≡ digit left ∷ [] = n ∙ decimal-one left a in
+        let same : left ≡ left % 10 = omega arith in
+        ([], inr refl, omega (arith, e, ap length one), w ∙ ap (λ (x : List ℕ). x ++ put) one ∙ ap (λ (k : ℕ). digit k ∷ put) same)
+    go (inl n) (inr a) =
+        let more : rest ≡ decimal (left / 10) ++ (digit (left % 10) ∷ []) = n ∙ decimal-more left a u in
+        (decimal (left / 10), inl refl, omega (arith, e, ap length more, length-append (decimal (left / 10)) (digit (left % 10) ∷ [])), w ∙ ap (λ (x : List ℕ). x ++ put) more ∙ append_assoc (decimal (left / 10)) (digit (left % 10) ∷ []) put)

@@ -21,14 +21,15 @@ pub fn list_length(list: &[u32]) -> usize
     digits + list.len().saturating_sub(1)
 }
 
-// A lent list of bytes, and how many of them are written.
+// A lent list of bytes, and how many of them are written: there is no heap, and so no text that grows.
 #[derive(Drop)]
 pub struct Output<'a> {
     pub bytes: &'a mut [u8],
     pub len: usize,
 }
 
-// What a value is as text, and the text put behind what is written.
+// What a value is as text, and the text put behind what is written. The list is still the caller's (`same_reference`), so that a caller knows what
+// became of its own.
 pub trait Text {
     ghost text: { Self → List ℕ };
 
@@ -52,17 +53,15 @@ impl Text for &[u8] {
 impl Text for u64 {
     ghost text = { decimal };
 
-    // The last digit first, from the end down.
+    // The last digit first, from the end down, by its place, of which the promise speaks. By hand: formatting goes by `fmt::Write`, whose writes
+    // may fail.
     fn put(self, out: &mut Output<'_>) {
         let end = out.len + decimal_length(self);
         let mut left = self;
-        let mut place = end - 1;
-        while left >= 10 {
-            out.bytes[place] = (48 + left % 10) as u8;
+        for place in (out.len..end).rev() {
+            out.bytes[place] = b'0' + (left % 10) as u8;
             left /= 10;
-            place -= 1;
         }
-        out.bytes[place] = (48 + left) as u8;
         out.len = end;
     }
 }
@@ -76,7 +75,7 @@ impl Text for &[u32] {
         };
         (*first as u64).put(out);
         for x in rest {
-            put_byte(44, out);
+            put_byte(b',', out);
             (*x as u64).put(out);
         }
     }
@@ -103,5 +102,5 @@ pub fn put_line<T: Text>(key: &[u8], value: T, out: &mut Output<'_>)
 {
     key.put(out);
     value.put(out);
-    put_byte(10, out);
+    put_byte(b'\n', out);
 }

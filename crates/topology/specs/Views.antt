@@ -3,7 +3,6 @@ use Rattle.std.specs.Prelude.{List, ℕ}
 use Rattle.base.specs.Checks.{Check}
 use Rattle.csr32.specs.declared.Csr32Matrix.{Csr32Matrix}
 use Rattle.side.specs.declared.AbtmTopology.{AbtmTopology}
-use Rattle.side.specs.Check.{IsSide}
 use Rattle.topology.specs.Answers.{build_check, sets_check}
 
 -- from_csr32, with the lengths of the three lists
@@ -15,9 +14,3 @@ abbrev pub check_sets : AbtmTopology → AbtmTopology → List ℕ → List ℕ 
 check_sets a b =
     sets_check a.nrows a.ncols a.row_word_ptr.now a.word_indices.now a.masks.now a.structural_nnz
     b.nrows b.ncols b.row_word_ptr.now b.word_indices.now b.masks.now b.structural_nnz
-
--- two sides of one shape that their check accepts
-abbrev pub SoundSides : AbtmTopology → AbtmTopology → Type 0
-SoundSides a b =
-    IsSide a.nrows a.ncols a.row_word_ptr.now a.word_indices.now a.masks.now
-    × IsSide a.nrows a.ncols b.row_word_ptr.now b.word_indices.now b.masks.now

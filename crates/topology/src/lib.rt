@@ -1,7 +1,7 @@
 // One side of a topology, `AbtmTopology` of the Rust: its check, its statistics, building it from a matrix, and set operations on two sides.
 #![tactic(auto)]
 
-ghost use Rattle.std.specs.Prelude.{◌≡◌, IfOk, ◌+◌, length};
+ghost use Rattle.std.specs.Prelude.{◌≡◌, ◌+◌, length};
 ghost use Rattle.csr32.specs.Views.{stores};
 ghost use Rattle.word.specs.Answers.{on};
 ghost use Rattle.side.specs.Views.{holds};
@@ -9,12 +9,10 @@ ghost use Rattle.side.specs.Built.{built_ptr, built_words, built_masks};
 ghost use Rattle.side_sets.specs.Sets.{pairwise_pairs};
 ghost use Rattle.topology.specs.Statistics.{average_nnz_of_word, fill_ratio_of_words, bytes_per_nnz};
 ghost use Rattle.topology.specs.Answers.{built_answer, stats_answer};
-ghost use Rattle.topology.specs.Views.{check_build, check_sets, SoundSides};
+ghost use Rattle.topology.specs.Views.{check_build, check_sets};
 
 use base::Refusal;
 use csr32::Csr32Matrix;
-use csr32::inner::Matrix;
-use side::inner::Side;
 use side::{AbtmTopology, SideCounts};
 use word::{AbtmTopologyWord, Operation};
 
@@ -65,27 +63,8 @@ pub fn stats(topology: AbtmTopology) -> Result<AbtmTopologyStats, Refusal>
     })
 }
 
-// The matrix, then the lengths of the three lists.
-fn check_build(
-    matrix: Csr32Matrix,
-    row_word_ptr: &[u32],
-    word_indices: &[u32],
-    masks: &[u64],
-) -> Result<(), Refusal>
-    ensures { result ≡ check_build matrix.entry row_word_ptr.now word_indices.now masks.now }
-{
-    matrix.validate()?;
-    side::inner::check_room(
-        matrix.nrows,
-        matrix.col_idx.len(),
-        row_word_ptr.len(),
-        word_indices.len(),
-        masks.len(),
-    )
-}
-
-// The side of the matrix's pairs; an entry that repeats is one pair. Lists that are written are handed in one by one:
-// each has an equation, and in a struct behind `&mut` each contract would say besides that the references stay.
+// The side of the matrix's pairs; an entry that repeats is one pair. Lists that are written are handed in one by one: each has an equation, and in a
+// struct behind `&mut` each contract would say besides that the references stay.
 pub fn from_csr32(
     matrix: Csr32Matrix,
     row_word_ptr: &mut [u32],
@@ -97,46 +76,15 @@ pub fn from_csr32(
     ensures words { word_indices.new ≡ built_words (check_build matrix.entry row_word_ptr.old word_indices.old masks.old) matrix.entry.nrows matrix.entry.ncols (stores matrix.entry) (length matrix.entry.col_idx.now) word_indices.old }
     ensures masked { masks.new ≡ built_masks (check_build matrix.entry row_word_ptr.old word_indices.old masks.old) matrix.entry.nrows matrix.entry.ncols (stores matrix.entry) (length matrix.entry.col_idx.now) masks.old }
 {
-    check_build(matrix, row_word_ptr, word_indices, masks)?;
-    Ok(side_build::inner::build_side(
-        Matrix {
-            nrows: matrix.nrows,
-            ncols: matrix.ncols,
-            row_ptr: matrix.row_ptr,
-            col_idx: matrix.col_idx,
-        },
+    let accepted = matrix.accept()?;
+    side::inner::check_room(
+        matrix.nrows,
+        matrix.col_idx.len(),
         row_word_ptr,
         word_indices,
         masks,
-    ))
-}
-
-// The first side, the second, equal sizes, then the lengths of the three lists: as many words as both sides have together.
-fn check_sets(
-    a: AbtmTopology,
-    b: AbtmTopology,
-    row_word_ptr: &[u32],
-    word_indices: &[u32],
-    masks: &[u64],
-) -> Result<(), Refusal>
-    ensures value { result ≡ check_sets a.entry b.entry row_word_ptr.now word_indices.now masks.now }
-    ensures accepted { IfOk result (λ t. SoundSides a.entry b.entry) }
-{
-    a.validate()?;
-    b.validate()?;
-    if b.nrows != a.nrows {
-        return Err(Refusal::SidesDiffer);
-    }
-    if b.ncols != a.ncols {
-        return Err(Refusal::SidesDiffer);
-    }
-    side::inner::check_room(
-        a.nrows,
-        a.masks.len() + b.masks.len(),
-        row_word_ptr.len(),
-        word_indices.len(),
-        masks.len(),
-    )
+    )?;
+    Ok(side_build::inner::build_side(accepted, row_word_ptr, word_indices, masks))
 }
 
 // The pairs that the operation takes of those of both sides; as many words as both have together are needed.
@@ -153,25 +101,20 @@ pub fn combine(
     ensures words { word_indices.new ≡ built_words (check_sets a.entry b.entry row_word_ptr.old word_indices.old masks.old) a.entry.nrows a.entry.ncols (pairwise_pairs (on op) (holds a.entry) (holds b.entry)) (length a.entry.masks.now + length b.entry.masks.now) word_indices.old }
     ensures masked { masks.new ≡ built_masks (check_sets a.entry b.entry row_word_ptr.old word_indices.old masks.old) a.entry.nrows a.entry.ncols (pairwise_pairs (on op) (holds a.entry) (holds b.entry)) (length a.entry.masks.now + length b.entry.masks.now) masks.old }
 {
-    check_sets(a, b, row_word_ptr, word_indices, masks)?;
-    Ok(side_sets::inner::combine(
-        Side {
-            nrows: a.nrows,
-            ncols: a.ncols,
-            row_word_ptr: a.row_word_ptr,
-            word_indices: a.word_indices,
-            masks: a.masks,
-        },
-        Side {
-            nrows: a.nrows,
-            ncols: a.ncols,
-            row_word_ptr: b.row_word_ptr,
-            word_indices: b.word_indices,
-            masks: b.masks,
-        },
-        op,
+    let left = a.accept()?;
+    let right = b.accept()?;
+    if b.nrows != a.nrows {
+        return Err(Refusal::SidesDiffer);
+    }
+    if b.ncols != a.ncols {
+        return Err(Refusal::SidesDiffer);
+    }
+    side::inner::check_room(
+        a.nrows,
+        a.masks.len() + b.masks.len(),
         row_word_ptr,
         word_indices,
         masks,
-    ))
+    )?;
+    Ok(side_sets::inner::combine(left, right, op, row_word_ptr, word_indices, masks))
 }

@@ -1,9 +1,15 @@
 -- Keys that rise, each above the one before it, are all different. Assumes nothing.
-use Rattle.std.proofs.Common.{◌≡◌, ℕ, zero, suc, ◌+◌, ◌<◌, ◌-◌, arith}
+use Rattle.std.proofs.Common.{◌≡◌, refl, sym, true, true≢false, ℕ, zero, suc, ◌+◌, ◌<◌, ◌-◌, arith}
+use Rattle.std.specs.Ordering.{is_lt}
 use Rattle.std.specs.Cmp.{IsTotalOrder}
 use Rattle.std.specs.declared.cmp.Ordering.{Ordering}
-use Rattle.std.specs.declared.cmp.Ordering.TheVariants.{Less}
+use Rattle.std.specs.declared.cmp.Ordering.TheVariants.{Less, Equal, Greater}
 use Rattle.std.proofs.lemmas.Cmp.{tied_itself}
+
+pub less : (o : Ordering) → is_lt o ≡ true → o ≡ Less
+less Less e = refl
+less Equal e = absurd (true≢false (sym e))
+less Greater e = absurd (true≢false (sym e))
 
 module _ {K : Type 0} {cmp : K → K → Ordering} (total : IsTotalOrder cmp) (key : ℕ → K) (count : ℕ) (rises : (b : ℕ) → 0 < b → b < count → cmp (key (b - 1)) (key b) ≡ Less) where
   -- each is below all that come after it

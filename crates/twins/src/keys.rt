@@ -1,7 +1,7 @@
 // Keys: a block's kind, id and field.
 ghost use Rattle.std.specs.Prelude.{◌≡◌, ◌<◌, length};
 
-// In the order of its fields, as a station lists peak after peak.
+// In the order of its fields, as a station lists peak after peak. The kind is a number: twins are searched before the kinds are tested.
 #[derive(Clone, Copy, PartialEq, Eq, PartialOrd, Ord)]
 pub struct Key {
     pub kind: u8,
@@ -9,7 +9,7 @@ pub struct Key {
     pub field: u32,
 }
 
-// The keys of the blocks.
+// The keys of the blocks, in three lists as C lends them.
 #[derive(Clone, Copy)]
 pub struct Keys<'a> {
     pub kinds: &'a [u8],

@@ -1,12 +1,12 @@
 // Keys that rise have no twins, in one of two orders: by kind, id, field, as a station lists peak after peak, or by field, kind, id, as it
 // lists field after field.
-ghost use Rattle.std.specs.Prelude.{◌≡◌, ◌≤◌, true, length};
+ghost use Rattle.std.specs.Prelude.{◌≡◌, ◌<◌, ◌≤◌, true, length};
 ghost use Rattle.twins.specs.declared.keys.Key.{Key};
 ghost use Rattle.twins.specs.Keys.{lowest_twin};
 
 use crate::keys::{Key, Keys};
 
-// A key as one of the orders takes it.
+// A key as one of the orders takes it. Not by `From<Key>`: that is a relation, and does not say that equal keys are taken alike.
 pub(crate) trait Ordered: Ord + Copy {
     ghost of: { Key → Self };
 
@@ -46,11 +46,9 @@ pub(crate) fn rises<K: Ordered>(keys: Keys, count: usize) -> bool
     requires { count ≤ length keys.kinds.now }
     ensures { result ≡ true → lowest_twin keys.entry count ≡ count }
 {
-    for b in 1..count {
-        let above = K::of(keys.at(b - 1)) < K::of(keys.at(b));
-        if !above {
-            return false;
-        }
-    }
-    true
+    (1..count).all(
+        |b|
+            requires { (0 < b) × (b < length keys.kinds.now) }
+        { K::of(keys.at(b - 1)) < K::of(keys.at(b)) },
+    )
 }

@@ -1,10 +1,18 @@
 // A table of the blocks met, in fixed memory. A key is looked for from its home slot on, up to a free slot or the table's end; it takes the
-// free slot. Blocks are taken in a class at a time, where there are more of them than the table holds.
+// free slot. Blocks are taken in a class at a time, where there are more of them than the table holds. Block b stands in its slot as b + 1, and 0
+// is a free one: an Option in each slot would double the array. The table is written, and so is handed in beside its class and its last slot.
 ghost use Rattle.std.specs.Prelude.{◌≡◌, false, ◌&&◌, ◌+◌, ◌<◌, ◌≤◌, eqb, length};
 ghost use Rattle.base.specs.Checks.{side_limit};
 ghost use Rattle.twins.specs.Keys.{repeated, spread_of, class_at, Table, Twin};
 
 use crate::keys::{Key, Keys};
+
+// A class of keys, one of those numbered from 0 to `last`. `last` is one less than a power of two.
+#[derive(Clone, Copy)]
+pub(crate) struct Class {
+    pub last: u64,
+    pub number: u64,
+}
 
 // A key's bits, spread over a word: its class and its home slot. The products fit, since their factors have 32 bits.
 #[tactic(auto, unfolding(crate::specs::Keys::spread_of))]
@@ -18,21 +26,14 @@ fn spread(key: Key) -> u64
 
 // Block b is of the class and repeats an earlier key. If not, it is taken in. A table that is full from the home slot on, as ids chosen for
 // it can make it, costs a search of all earlier blocks.
-fn meets(
-    keys: Keys,
-    last_class: u64,
-    class: u64,
-    last_slot: u64,
-    table: &mut [u32],
-    b: usize,
-) -> bool
-    requires { (b < length keys.kinds.now) × (b ≤ side_limit) × Table keys table.old last_class class last_slot b }
-    ensures value { result ≡ (eqb (class_at keys.entry last_class b) class && repeated keys.entry b) }
-    ensures table { result ≡ false → Table keys.entry table.new last_class class last_slot (b + 1) }
+fn meets(keys: Keys, class: Class, last_slot: u64, table: &mut [u32], b: usize) -> bool
+    requires { (b < length keys.kinds.now) × (b ≤ side_limit) × Table keys table.old class.last class.number last_slot b }
+    ensures value { result ≡ (eqb (class_at keys.entry class.last b) class.number && repeated keys.entry b) }
+    ensures table { result ≡ false → Table keys.entry table.new class.last class.number last_slot (b + 1) }
 {
     let key = keys.at(b);
     let bits = spread(key);
-    if (bits >> 32) & last_class != class {
+    if (bits >> 32) & class.last != class.number {
         return false;
     }
     let home = ((bits >> 17) & last_slot) as usize;
@@ -49,20 +50,20 @@ fn meets(
     keys.found_before(b)
 }
 
-// The first block of the class that repeats a key. `table` is scratch, all zero.
+// The first block of the class that repeats a key, or `count`. `table` is scratch, all zero: each step writes it, and a closure of `find` would have
+// to say what it holds.
 pub(crate) fn first_met(
     keys: Keys,
-    last_class: u64,
-    class: u64,
+    class: Class,
     last_slot: u64,
     table: &mut [u32],
     count: usize,
 ) -> usize
-    requires { (count ≤ length keys.kinds.now) × (count ≤ side_limit + 1) × Table keys table.old last_class class last_slot 0 }
-    ensures { Twin keys.entry last_class class (class + 1) count result }
+    requires { (count ≤ length keys.kinds.now) × (count ≤ side_limit + 1) × Table keys table.old class.last class.number last_slot 0 }
+    ensures { Twin keys.entry class.last class.number (class.number + 1) count result }
 {
     for b in 0..count {
-        if meets(keys, last_class, class, last_slot, table, b) {
+        if meets(keys, class, last_slot, table, b) {
             return b;
         }
     }

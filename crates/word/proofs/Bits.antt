@@ -3,13 +3,13 @@ use mathlib.Core.Bool.{Bool, false, not, ◌&&◌, ◌||◌, cond}
 use mathlib.Core.List.{List, [], ◌∷◌, map}
 use mathlib.Core.Path.{◌≡◌, refl, sym, ap, ap₂, subst, ◌∙◌}
 use Prim.Native.Nat.{ℕ, zero, suc, ◌+◌, ◌-◌, ◌*◌, ◌/◌, ◌%◌, ◌^◌, ◌≤◌, ◌<◌, min, max}
-use native.Mathlib.Nat.{div-one, mod-lt, zero-lt-suc, lt_of_le_of_lt, pow-suc, mod-eq_of_lt, one-mul, zero-mul, div-eq_of_lt, mul-div_cancel, mul-mod_left}
+use native.Mathlib.Nat.{div-one, mod-lt, zero-lt-suc, pow-suc, mod-eq_of_lt, one-mul, zero-mul, div-eq_of_lt, mul-div_cancel, mul-mod_left}
 use native.Mathlib.Numerals.{add-one, one-add}
 use native.Mathlib.Nat.{zero-add}
 use native.Mathlib.Omega.{arith}
 use borrow.Author.Tests.{ne_eqb}
 use lib.Arith.{lt-one, digits_mod}
-use lib.Bits.{bit_and, bit_or, and_step, or_step, and_self, and_mask, and_le_r, and_shr, or_shr, and_high, bit_xor, differ, xor_step, xor_shr}
+use lib.Bits.{bit_and, bit_or, and_step, or_step, and_self, and_mask, and_shr, or_shr, and_high, bit_xor, differ, xor_step, xor_shr}
 use lib.Count.{ones, ones_in, ones_step, count_trailing_zeros}
 use lib.Dec.{T, eqb, eqb-suc-suc, eqb-zero-suc, eqb-suc-zero}
 use lib.ListN.{length, length-map, get_or}
@@ -17,7 +17,7 @@ use lib.Pow.{pow_pos, pow-lt, shr-shr, shr_lt, field, mod-mod-pow}
 use Rattle.base.specs.Sets.{keep, members_from, members_below, count_below}
 use Rattle.base.proofs.Bools.{not-T-of}
 use Rattle.base.proofs.Sets.{First, members-suc, members-zero, members-up, members-ext, members-none, members-at, count-members, count-get_or, count-pos}
-use Rattle.word.specs.Bits.{bit_at}
+use Rattle.word.specs.Bits.{bit_at, set_bits}
 
 -- ---- a bit at a time, lowest first
 
@@ -143,6 +143,13 @@ zero_bit i = ap (λ (x : ℕ). eqb (x % 2) 1) (div-eq_of_lt (pow_pos i))
 
 pub no_bits : (k : ℕ) → members_from (bit_at 0) 0 k ≡ []
 no_bits k = members-none (bit_at 0) 0 k (λ i l u t. not-T-of (bit_at 0 i) (zero_bit i) t)
+
+-- the first of a word's set bits
+pub head_bit : (m b : ℕ) (l : List ℕ) → set_bits m ≡ b ∷ l → (b < 64) × T (bit_at m b)
+head_bit m b l e =
+    let is : get_or (set_bits m) 0 0 ≡ b = ap (λ (k : List ℕ). get_or k 0 0) e in
+    let at : (0 ≤ get_or (set_bits m) 0 0) × (get_or (set_bits m) 0 0 < 0 + 64) × T (bit_at m (get_or (set_bits m) 0 0)) = members-at (bit_at m) 0 64 0 (omega (arith, ap (λ (k : List ℕ). length k) e)) in
+    (omega (arith, is, at.1), subst (λ (n : ℕ). T (bit_at m n)) is at.2)
 
 -- ---- one bit: `1 << k`
 
@@ -277,10 +284,6 @@ bit_not (suc k) m (suc i) h l =
 pub bit-shr : (m k i : ℕ) → bit_at (m / 2 ^ k) i ≡ bit_at m (k + i)
 unfolding bit_at
 bit-shr m k i = ap (λ (x : ℕ). eqb (x % 2) 1) (shr-shr m k i)
-
--- `m & (m - 1)` is less
-pub clear-less : (b : ℕ) → (b ≡ 0 → ⊥) → bit_and b (b - 1) < b
-clear-less b n = lt_of_le_of_lt (and_le_r b (b - 1)) (omega arith)
 
 -- ---- counts
 

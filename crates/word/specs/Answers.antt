@@ -4,7 +4,7 @@ use Rattle.std.specs.Prelude.{Result, Option, Some, None}
 use Rattle.base.specs.Checks.{answer}
 use Rattle.base.specs.declared.Refusal.{Refusal}
 use Rattle.base.specs.declared.Refusal.TheVariants.{OutOfRange}
-use Rattle.base.specs.Checks.{must, after}
+use Rattle.base.specs.Checks.{must}
 use Rattle.base.specs.Sets.{count_below}
 use Rattle.word.specs.Bits.{bit_at, set_bits}
 use Rattle.word.specs.declared.Operation.{Operation}

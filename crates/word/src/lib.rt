@@ -9,7 +9,10 @@ ghost use Rattle.word.specs.Answers.{contains_answer, rank_answer, select_answer
 
 use base::Refusal;
 
-// An operation on two words, bit by bit. Which of the four it is, a caller says as data: a closure in its place would be no plainer.
+pub mod inner;
+
+// An operation on two words, bit by bit. Which of the four it is, a caller says as data: the contract of a closure in its place would have to say that
+// it acts bit by bit.
 #[derive(Clone, Copy)]
 pub enum Operation {
     Union,
@@ -23,10 +26,10 @@ impl Operation {
         ensures { result ≡ word_from (λ i. on self (bit_at a i) (bit_at b i)) 64 0 }
     {
         match self {
-            Operation::Union => a | b,
-            Operation::Intersection => a & b,
-            Operation::AndNot => a & !b,
-            Operation::Xor => a ^ b,
+            Self::Union => a | b,
+            Self::Intersection => a & b,
+            Self::AndNot => a & !b,
+            Self::Xor => a ^ b,
         }
     }
 }
@@ -55,7 +58,7 @@ impl AbtmTopologyWord {
     pub fn base_col(self) -> usize
         ensures { result ≡ self.word_index * 64 }
     {
-        self.word_index as usize * AbtmTopologyWord::BITS
+        self.word_index as usize * Self::BITS
     }
 
     pub fn mask(self) -> u64
@@ -67,43 +70,33 @@ impl AbtmTopologyWord {
     pub fn popcount(self) -> usize
         ensures { result ≡ count_below 64 (bit_at self.mask) }
     {
-        u64::count_ones(self.mask) as usize
+        self.mask.count_ones() as usize
     }
 
     pub fn contains_offset(self, offset: usize) -> bool
         ensures { result ≡ contains_answer self.mask offset }
     {
-        if offset < AbtmTopologyWord::BITS {
-            self.mask & (1u64 << offset) != 0
-        } else {
-            false
-        }
+        offset < Self::BITS && self.mask & (1u64 << offset) != 0
     }
 
     pub fn rank(self, offset: usize) -> Result<usize, Refusal>
         ensures { result ≡ rank_answer self.mask offset }
     {
-        if offset > AbtmTopologyWord::BITS {
+        if offset > Self::BITS {
             return Err(Refusal::OutOfRange);
         }
-        if offset == AbtmTopologyWord::BITS {
+        if offset == Self::BITS {
             return Ok(self.popcount());
         }
         let below = (1u64 << offset) - 1;
-        let count = u64::count_ones(self.mask & below) as usize;
-        Ok(count)
+        Ok((self.mask & below).count_ones() as usize)
     }
 
     pub fn select(self, ordinal: usize) -> Option<usize>
         ensures { result ≡ select_answer self.mask ordinal }
     {
-        if ordinal >= self.popcount() {
-            return None;
-        }
-        let mut bits = self.mask;
-        for _ in 0..ordinal {
-            bits &= bits - 1;
-        }
-        Some(u64::trailing_zeros(bits) as usize)
+        inner::Bits::of(self.mask)
+            .nth(ordinal)
+            .map(|bit| bit as usize)
     }
 }

@@ -1,6 +1,14 @@
--- `csr32::is_finite` meets its contract. Assumes nothing.
-use Rattle.csr32.proofs.Finite.{finite-test}
+use Rattle.std.proofs.Common.{◌≡◌, refl, ◌∙◌}
+use Rattle.std.specs.Prelude.{Float}
+use Rattle.std.specs.Float.{nan, inf, fin, float_is_finite}
+use Rattle.csr32.specs.Matrix.{finite}
 use Rattle.csr32.proofs.is_finite.Goals as goal
 
 pub returns : goal.returns
-returns c = finite-test c.args.x
+unfolding float_is_finite
+returns c = c.is_finite.ensures.value ∙ same c.args.x
+  where
+    same : (x : Float) → float_is_finite x ≡ finite x
+    same nan = refl
+    same (inf s) = refl
+    same (fin s m e) = refl

@@ -1,56 +1,77 @@
 -- `multiplicity::region_multiplicity` meets its contract. Assumes nothing.
-use mathlib.Core.Path.{◌≡◌, sym, ap, ◌∙◌}
-use Rattle.std.specs.Prelude.{Ok}
-use mathlib.Core.List.{List, ◌++◌}
-use Prim.Native.Nat.{ℕ, ◌≤◌}
-use native.Mathlib.Omega.{arith}
-use lib.ListN.{length, get_or, take, drop, length-append}
-use lib.Seq.{length-take-le}
-use Rattle.base.specs.Lists.{list_from}
-use Rattle.base.proofs.Checks.{on-accepted}
-use Rattle.base.proofs.Lists.{length-list_from}
-use Rattle.multiplicity.specs.Multiplicity.{multiplicity_of, multiplicity_check, Regions}
-use Rattle.multiplicity.proofs.Regions.{accepted-counts}
+use Rattle.std.proofs.Common.{◌≡◌, refl, sym, ap, ap₂, ◌∙◌, subst, List, ◌++◌, ℕ, ◌≤◌, ◌<◌, arith, length, get_or, take, drop, le-leb, length-take-le, length-append}
+use Rattle.std.proofs.lemmas.Bool.{lt-leb}
+use Rattle.std.specs.Prelude.{Ok, Err}
+use Rattle.base.specs.Lists.{list_from, over}
+use Rattle.base.proofs.Checks.{handed, group-pass, group-stop, last-pass, last-stop, on-accepted, on-refused, kept}
+use Rattle.base.proofs.Lists.{length-list_from, part_left}
+use Rattle.multiplicity.specs.Multiplicity.{multiplicity_of, multiplicity_check, multiplicity_stats}
+use Rattle.multiplicity.specs.Views.{multiplicity_at}
 use Rattle.multiplicity.proofs.Counts.{mults-le, mults-front, mults-stats}
-use Rattle.multiplicity.proofs.region_multiplicity.Goals.{After-count_regions, In_ok-check_counts}
+use Rattle.multiplicity.proofs.region_multiplicity.Goals.{After-count, In_ok-regions}
 use Rattle.multiplicity.proofs.region_multiplicity.Goals as goal
 
--- in this arm all is accepted
-ok : (c : In_ok-check_counts) → multiplicity_check c.args.node_count c.args.region_count c.args.words.now c.args.counts.now ≡ Ok tt
-ok c = sym c.check_counts.ensures ∙ c.in_ok-check_counts.was
+pub returns-in_err-regions : goal.returns-in_err-regions
+unfolding multiplicity_check
+returns-in_err-regions c =
+    let e = sym (group-stop _ _ _ c.in_err-regions.ensures.refused) in record {
+      value = handed _ _ c.from_residual.ensures.1 ∙ on-refused _ _ _ Err e;
+      counts_after = kept _ _ _ _ e;
+    }
 
-known : (c : In_ok-check_counts) → Regions c.args.node_count c.args.region_count c.args.words.now × (c.args.node_count ≤ length c.args.counts.now)
-known c = accepted-counts _ _ _ _ (λ w. omega (arith, c.type_inv.words w)) (ok c)
+pub returns-then-need-counts : goal.returns-then-need-counts
+unfolding multiplicity_check
+returns-then-need-counts c =
+    let a = c.in_ok-regions.ensures.accepted in
+    let r = last-stop _ _ _ (lt-leb _ _ (subst (λ (n : ℕ). length c.args.counts.now < n) a.1.0 c.if-need-counts.true)) refl in
+    let e = sym (group-pass _ _ _ a.0 r) in record {
+      value = on-refused _ _ _ Err e;
+      counts_after = kept _ _ _ _ e;
+    }
 
-pub slice_bounds-count_regions-end : goal.slice_bounds-count_regions-end
-slice_bounds-count_regions-end c = (known (goal.at.slice_bounds-count_regions-end c).In_ok-check_counts).1
+-- a function of the accepted regions is one of those that are lent
+same : {A : Type 0} (f : ℕ → ℕ → List ℕ → A) (c : In_ok-regions)
+    → f c.in_ok-regions.regions.node_count c.in_ok-regions.regions.region_count c.in_ok-regions.regions.words.now ≡ f c.args.regions.node_count c.args.regions.region_count c.args.regions.words.now
+same f c =
+    let a = c.in_ok-regions.ensures.accepted.1 in
+    ap₂ (λ n k. f n k c.in_ok-regions.regions.words.now) a.0 a.1 ∙ ap (λ w. f c.args.regions.node_count c.args.regions.region_count w.now) a.2
 
-pub slice_bounds-count_regions-end-2 : goal.slice_bounds-count_regions-end-2
-slice_bounds-count_regions-end-2 c = sym (length-take-le _ _ (known (goal.at.slice_bounds-count_regions-end-2 c).In_ok-check_counts).1)
-
-pub count_regions-requires : goal.count_regions-requires
-count_regions-requires c = ((known (goal.at.count_regions-requires c).In_ok-check_counts).0, length-take-le _ _ (known (goal.at.count_regions-requires c).In_ok-check_counts).1)
+pub count-requires : goal.count-requires
+count-requires c = length-take-le _ _ c.if-need-counts.false
 
 -- what the tally is lent is the counts
-front : (c : After-count_regions) → take c.args.node_count (c.count_regions.new.counts ++ drop c.args.node_count c.args.counts.now) ≡ list_from (multiplicity_of c.args.node_count c.args.region_count c.args.words.now) c.args.node_count 0
-front c = mults-front c.args.node_count c.args.words.now c.args.region_count _ c.args.counts.now c.count_regions.ensures
+front : (c : After-count) → take c.in_ok-regions.regions.node_count (c.count.new.counts ++ drop c.in_ok-regions.regions.node_count c.args.counts.now) ≡ list_from (multiplicity_at c.in_ok-regions.regions) c.in_ok-regions.regions.node_count 0
+front c = mults-front c.in_ok-regions.regions.node_count c.in_ok-regions.regions.words.now c.in_ok-regions.regions.region_count _ c.args.counts.now c.count.ensures
 
 pub slice_bounds-tally-end : goal.slice_bounds-tally-end
 slice_bounds-tally-end c =
-    omega (arith, length-append c.count_regions.new.counts (drop c.args.node_count c.args.counts.now), ap length c.count_regions.ensures, length-list_from (multiplicity_of c.args.node_count c.args.region_count c.args.words.now) c.args.node_count 0)
+    let r = c.in_ok-regions.regions in
+    omega (arith, length-append c.count.new.counts (drop r.node_count c.args.counts.now), ap length c.count.ensures, length-list_from (multiplicity_at r) r.node_count 0)
 
 pub slice_bounds-tally-end-2 : goal.slice_bounds-tally-end-2
 slice_bounds-tally-end-2 c =
-    sym (ap length (front (goal.at.slice_bounds-tally-end-2 c).After-count_regions) ∙ length-list_from (multiplicity_of c.args.node_count c.args.region_count c.args.words.now) c.args.node_count 0)
+    let r = c.in_ok-regions.regions in
+    sym (ap length (front (goal.at.slice_bounds-tally-end-2 c).After-count) ∙ length-list_from (multiplicity_at r) r.node_count 0)
 
 pub tally-requires : goal.tally-requires
 tally-requires c =
-    let r = (known (goal.at.tally-requires c).In_ok-check_counts).0 in (
-      omega (arith, ap length (front (goal.at.tally-requires c).After-count_regions), length-list_from (multiplicity_of c.args.node_count c.args.region_count c.args.words.now) c.args.node_count 0, r.few_nodes),
-      r.few_regions,
-      λ i. omega (arith, ap (λ (l : List ℕ). get_or l i 0) (front (goal.at.tally-requires c).After-count_regions), mults-le c.args.node_count c.args.words.now c.args.region_count i, r.few_regions),
+    let r = c.in_ok-regions.regions in
+    let f = front (goal.at.tally-requires c).After-count in (
+      omega (arith, ap length f, length-list_from (multiplicity_at r) r.node_count 0, r.accepted.few_nodes),
+      r.accepted.few_regions,
+      λ i. omega (arith, ap (λ (l : List ℕ). get_or l i 0) f, mults-le r.node_count r.words.now r.region_count i, r.accepted.few_regions),
     )
 
-pub returns-clause-value : goal.returns-clause-value
-returns-clause-value c =
-    on-accepted _ _ _ _ (ok (goal.at.returns-clause-value c).In_ok-check_counts) (ap Ok (c.tally.ensures ∙ mults-stats c.args.node_count c.args.words.now c.args.region_count _ (front (goal.at.returns-clause-value c).After-count_regions)))
+pub returns : goal.returns
+unfolding multiplicity_check
+returns c =
+    let a = c.in_ok-regions.ensures.accepted in
+    let r = c.in_ok-regions.regions in
+    let at = goal.at.returns c in
+    let p = last-pass _ _ _ (le-leb _ _ (subst (λ (n : ℕ). n ≤ length c.args.counts.now) a.1.0 c.if-need-counts.false)) refl in
+    let e = sym (group-pass _ _ _ a.0 p) in record {
+      value = on-accepted _ _ _ _ e
+          (ap Ok (c.tally.ensures ∙ mults-stats r.node_count r.words.now r.region_count _ (front at.After-count) ∙ same (λ n k w. multiplicity_stats n k (multiplicity_of n k w)) at.In_ok-regions));
+      counts_after = on-accepted _ _ _ _ e
+          (part_left _ _ _ _ c.count.ensures (sym (length-list_from (multiplicity_at r) r.node_count 0)) ∙ same (λ n k w. over (list_from (multiplicity_of n k w) n 0) c.args.counts.now) at.In_ok-regions);
+    }

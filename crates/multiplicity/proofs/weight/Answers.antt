@@ -1,26 +1,66 @@
 -- `multiplicity::weight` meets its contract. Assumes nothing.
-use mathlib.Core.Path.{◌≡◌, sym, ◌∙◌}
-use Rattle.std.specs.Prelude.{Ok}
-use Prim.Native.Nat.{◌<◌}
-use native.Mathlib.Omega.{arith}
-use Rattle.multiplicity.specs.Multiplicity.{weight_check, Regions}
-use Rattle.multiplicity.proofs.Regions.{accepted-weight}
+use Rattle.std.proofs.Common.{◌≡◌, refl, sym, ap, ap₂, ◌∙◌, subst, List, Bool, cond, ℕ, ◌/◌, ◌≤◌, ◌<◌, arith, lt-ltb, le-ltb}
+use Rattle.std.specs.Prelude.{Ok, Err}
+use Rattle.base.proofs.Checks.{handed, group-pass, group-stop, pass, stop, last-pass, last-stop, on-accepted, on-refused}
+use Rattle.multiplicity.specs.Multiplicity.{multiplicity_of, weight_check, weight_of}
 use Rattle.multiplicity.proofs.Counts.{mult-pos}
-use Rattle.multiplicity.proofs.weight.Goals.{In_ok-check_weight}
+use Rattle.multiplicity.proofs.weight.Goals.{In_ok-regions}
 use Rattle.multiplicity.proofs.weight.Goals as goal
 
--- in this arm all is accepted
-ok : (c : In_ok-check_weight) → weight_check c.args.node_count c.args.region_count c.args.words.now c.args.region c.args.node ≡ Ok tt
-ok c = sym c.check_weight.ensures ∙ c.in_ok-check_weight.was
+pub returns-in_err-regions : goal.returns-in_err-regions
+unfolding weight_check
+returns-in_err-regions c = handed _ _ c.from_residual.ensures.1 ∙ on-refused _ _ _ Err (sym (group-stop _ _ _ c.in_err-regions.ensures.refused))
 
-known : (c : In_ok-check_weight) → Regions c.args.node_count c.args.region_count c.args.words.now × (c.args.region < c.args.region_count) × (c.args.node < c.args.node_count)
-known c = accepted-weight _ _ _ _ _ (λ w. omega (arith, c.type_inv.words w)) (ok c)
+pub returns-then-region-regions : goal.returns-then-region-regions
+unfolding weight_check
+returns-then-region-regions c =
+    let a = c.in_ok-regions.ensures.accepted in
+    on-refused _ _ _ Err (sym (group-pass _ _ _ a.0 (stop _ _ _ _ (le-ltb _ _ (subst (λ n. n ≤ c.args.region) a.1.1 c.if-region-regions.true)) refl)))
 
-pub region_holds-requires : goal.region_holds-requires
-region_holds-requires c = known (goal.at.region_holds-requires c).In_ok-check_weight
+pub returns-then-node-regions : goal.returns-then-node-regions
+unfolding weight_check
+returns-then-node-regions c =
+    let a = c.in_ok-regions.ensures.accepted in
+    on-refused _ _ _ Err
+    (sym (group-pass _ _ _ a.0 (pass _ _ _ _ (lt-ltb _ _ (subst (λ n. c.args.region < n) a.1.1 c.if-region-regions.false)) (last-stop _ _ _ (le-ltb _ _ (subst (λ n. n ≤ c.args.node) a.1.0 c.if-node-regions.true)) refl))))
 
-pub multiplicity-requires : goal.multiplicity-requires
-multiplicity-requires c = ((known (goal.at.multiplicity-requires c).In_ok-check_weight).0, (known (goal.at.multiplicity-requires c).In_ok-check_weight).2)
+-- a function of the accepted regions is one of those that are lent
+same : {A : Type 0} (f : ℕ → ℕ → List ℕ → A) (c : In_ok-regions)
+    → f c.in_ok-regions.regions.node_count c.in_ok-regions.regions.region_count c.in_ok-regions.regions.words.now ≡ f c.args.regions.node_count c.args.regions.region_count c.args.regions.words.now
+same f c =
+    let a = c.in_ok-regions.ensures.accepted.1 in
+    ap₂ (λ n k. f n k c.in_ok-regions.regions.words.now) a.0 a.1 ∙ ap (λ w. f c.args.regions.node_count c.args.regions.region_count w.now) a.2
+
+-- region and node are named within their bounds
+within : (c : In_ok-regions) → c.args.region < c.in_ok-regions.regions.region_count → c.args.node < c.in_ok-regions.regions.node_count
+    → weight_check c.args.regions.node_count c.args.regions.region_count c.args.regions.words.now c.args.region c.args.node ≡ Ok tt
+unfolding weight_check
+within c q i =
+    let a = c.in_ok-regions.ensures.accepted in
+    sym
+    (group-pass _ _ _ a.0
+    (pass _ _ _ _ (lt-ltb _ _ (subst (λ n. c.args.region < n) a.1.1 q)) (last-pass _ _ _ (lt-ltb _ _ (subst (λ n. c.args.node < n) a.1.0 i)) refl)))
+
+pub returns-then-not-holds : goal.returns-then-not-holds
+returns-then-not-holds c =
+    let at = goal.at.returns-then-not-holds c in
+    let r = c.in_ok-regions.regions in
+    on-accepted _ _ _ _ (within at.In_ok-regions c.if-region-regions.false c.if-node-regions.false)
+    (ap Ok
+    (ap (λ (b : Bool). cond b (65536 / multiplicity_of r.node_count r.region_count r.words.now c.args.node) 0) c.if-not-holds.ensures
+    ∙ same (λ n k w. weight_of n k w c.args.region c.args.node) at.In_ok-regions))
 
 pub nonzero_div-result : goal.nonzero_div-result
-nonzero_div-result c = omega (arith, c.multiplicity.ensures, mult-pos c.args.node_count c.args.words.now c.args.node c.args.region_count c.args.region (known (goal.at.nonzero_div-result c).In_ok-check_weight).1 ((sym c.region_holds.ensures ∙ c.if-not-region_holds.false)))
+nonzero_div-result c =
+    let r = c.in_ok-regions.regions in
+    omega (arith, c.multiplicity.ensures, mult-pos r.node_count r.words.now c.args.node r.region_count c.args.region c.if-region-regions.false (sym c.if-not-holds.ensures))
+
+pub returns : goal.returns
+returns c =
+    let at = goal.at.returns c in
+    let r = c.in_ok-regions.regions in
+    on-accepted _ _ _ _ (within at.In_ok-regions c.if-region-regions.false c.if-node-regions.false)
+    (ap Ok
+    (ap (λ (m : ℕ). 65536 / m) c.multiplicity.ensures
+    ∙ ap (λ (b : Bool). cond b (65536 / multiplicity_of r.node_count r.region_count r.words.now c.args.node) 0) c.if-not-holds.ensures
+    ∙ same (λ n k w. weight_of n k w c.args.region c.args.node) at.In_ok-regions))

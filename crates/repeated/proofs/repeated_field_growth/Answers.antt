@@ -1,6 +1,7 @@
 -- `repeated::repeated_field_growth` meets its contract: the lists that the checked growth left are written again with the same. Assumes nothing.
-use mathlib.Core.Path.{◌≡◌, refl, sym, ap, ◌∙◌, subst}
+use mathlib.Core.Path.{◌≡◌, sym, ap, ◌∙◌, subst}
 use Rattle.std.specs.Prelude.{Ok}
+use mathlib.Core.Bool.{Bool}
 use mathlib.Core.List.{List}
 use Prim.Native.Nat.{ℕ, ◌≤◌}
 use native.Mathlib.Omega.{arith}
@@ -15,9 +16,9 @@ use Rattle.side.specs.Side.{side_holds}
 use Rattle.dual_topology.specs.Check.{topology_check, IsTopology}
 use Rattle.graph.specs.Network.{Network, field_network, region_words, frontier_words}
 use Rattle.growth.proofs.Lent.{region-length, frontier-length, scratch-zero}
-use Rattle.field_region.specs.Growth.{field_grow_check}
+use Rattle.field_region.specs.Growth.{field_grow_check, blocks_grown_by}
 use Rattle.field_region.proofs.Accepted.{Accepts, accepted-growth}
-use Rattle.repeated.proofs.Repeating.{left_is, again-room, again-left, field-accepted, field-hops-told}
+use Rattle.repeated.proofs.Repeating.{left_is, again-room, again-left, field-accepted, field-hops-told, side-pairs}
 use Rattle.repeated.proofs.repeated_field_growth.Goals.{After-words_for-need, In-Ok, Start}
 use Rattle.repeated.proofs.repeated_field_growth.Goals as goal
 
@@ -78,14 +79,8 @@ module _ (c : After-words_for-need) where
   room-scratch : c.words_for-need.result ≤ length c.grow_field_aware_region.new.scratch
   room-scratch = again-room zeros t.args.scratch.now _ _ (left_is _ _ _ _ (ok (goal.at.After-words_for-need c).In-Ok) c.grow_field_aware_region.ensures.spent) zeros-long
 
-pub invariant_of-rows : goal.invariant_of-rows
-invariant_of-rows c = record { accepted = (square (goal.at.invariant_of-rows c).In-Ok).rows }
-
-pub invariant_of-columns : goal.invariant_of-columns
-invariant_of-columns c = record { accepted = (square (goal.at.invariant_of-columns c).In-Ok).columns }
-
-pub invariant_of-accepted : goal.invariant_of-accepted
-invariant_of-accepted c = record { accepted = square (goal.at.invariant_of-accepted c).In-Ok }
+pub graph_of-graph-requires : goal.graph_of-graph-requires
+graph_of-graph-requires c = square (goal.at.graph_of-graph-requires c).In-Ok
 
 pub invariant_of-seeds : goal.invariant_of-seeds
 invariant_of-seeds c = record { accepted = seeds (goal.at.invariant_of-seeds c).In-Ok }
@@ -94,7 +89,7 @@ pub invariant_of-blocks : goal.invariant_of-blocks
 invariant_of-blocks c = let l = (good (goal.at.invariant_of-blocks c).In-Ok).layout in record { totals = l.running; few = l.blocks.short; filled = filled-of _ _ _ _ l.blocks }
 
 pub invariant_of-repeat_blocks : goal.invariant_of-repeat_blocks
-invariant_of-repeat_blocks c = record { sized = (good (goal.at.invariant_of-repeat_blocks c).In-Ok).side }
+invariant_of-repeat_blocks c = record { sized = c.graph_of-graph.ensures.0 ∙ (good (goal.at.invariant_of-repeat_blocks c).In-Ok).side }
 
 pub words_for-need-requires : goal.words_for-need-requires
 words_for-need-requires c = omega (arith, (good (goal.at.words_for-need-requires c).In-Ok).side, (good (goal.at.words_for-need-requires c).In-Ok).layout.blocks.short)
@@ -120,13 +115,13 @@ slice_bounds-repeat_blocks-end-in-Ok-5 c = sym (length-take-le _ _ (room-scratch
 pub repeat_blocks-grown-requires : goal.repeat_blocks-grown-requires
 repeat_blocks-grown-requires c =
     let w = (goal.at.repeat_blocks-grown-requires c).After-words_for-need in
-    let n = c.words_for-need.ensures in
-    (refl, length-take-le _ _ (room-region w) ∙ n, length-take-le _ _ (room-frontier w) ∙ n, length-take-le _ _ (room-scratch w) ∙ n)
+    let n = c.words_for-need.ensures ∙ ap words_needed (sym c.graph_of-graph.ensures.0) in
+    (sym c.graph_of-graph.ensures.0, length-take-le _ _ (room-region w) ∙ n, length-take-le _ _ (room-frontier w) ∙ n, length-take-le _ _ (room-scratch w) ∙ n)
 
 pub returns-in-Ok-clause-value : goal.returns-in-Ok-clause-value
 returns-in-Ok-clause-value c =
     c.into-in-Ok.ensures
-    ∙ field-hops-told _ (field_network c.args.layout.blocks.components.now (side_holds c.args.topology.rows.row_word_ptr.now c.args.topology.rows.word_indices.now c.args.topology.rows.masks.now)) c.args.mask.words.now c.args.hops _ (ok (goal.at.returns-in-Ok-clause-value c).In-Ok) c.repeat_blocks-grown.ensures.value
+    ∙ field-hops-told _ (field_network c.args.layout.blocks.components.now (side_holds c.args.topology.rows.row_word_ptr.now c.args.topology.rows.word_indices.now c.args.topology.rows.masks.now)) c.args.mask.words.now c.args.hops _ (ok (goal.at.returns-in-Ok-clause-value c).In-Ok) (c.repeat_blocks-grown.ensures.value ∙ ap (λ (p : ℕ → ℕ → Bool). blocks_grown_by (field_network c.args.layout.blocks.components.now p) c.args.mask.words.now c.args.hops) (side-pairs _ c.args.topology.rows c.graph_of-graph.result.topology.rows c.graph_of-graph.ensures.1))
 
 pub returns-in-Ok-clause-spent : goal.returns-in-Ok-clause-spent
 returns-in-Ok-clause-spent c =

@@ -1,5 +1,5 @@
 -- `repeated::repeated_growth` meets its contract: the lists that the checked growth left are written again with the same. Assumes nothing.
-use mathlib.Core.Path.{◌≡◌, refl, sym, ◌∙◌}
+use mathlib.Core.Path.{◌≡◌, sym, ap, ◌∙◌}
 use Rattle.std.specs.Prelude.{Ok}
 use mathlib.Core.List.{List}
 use Prim.Native.Nat.{ℕ, ◌≤◌}
@@ -10,10 +10,11 @@ use Rattle.mask.specs.Mask.{words_needed}
 use Rattle.side.specs.Side.{side_holds}
 use Rattle.dual_topology.specs.Check.{topology_check}
 use Rattle.graph.specs.Network.{Network, plain_network, region_words, frontier_words}
+use Rattle.growth.specs.Visits.{grown_by}
 use Rattle.growth.proofs.Lent.{region-length, frontier-length, scratch-zero}
 use Rattle.region.specs.Growth.{grow_check}
 use Rattle.region.proofs.Accepted.{Accepts, accepted-growth}
-use Rattle.repeated.proofs.Repeating.{left_is, again-room, again-left, grown-accepted, hops-told}
+use Rattle.repeated.proofs.Repeating.{left_is, again-room, again-left, grown-accepted, hops-told, side-pairs}
 use Rattle.repeated.proofs.repeated_growth.Goals.{After-words_for-need, In-Ok, Start}
 use Rattle.repeated.proofs.repeated_growth.Goals as goal
 
@@ -66,14 +67,8 @@ module _ (c : After-words_for-need) where
   room-scratch : c.words_for-need.result ≤ length c.grow_undirected_region.new.scratch
   room-scratch = again-room zeros t.args.scratch.now _ _ (left_is _ _ _ _ (ok (goal.at.After-words_for-need c).In-Ok) c.grow_undirected_region.ensures.spent) zeros-long
 
-pub invariant_of-rows : goal.invariant_of-rows
-invariant_of-rows c = record { accepted = (good (goal.at.invariant_of-rows c).In-Ok).topology.rows }
-
-pub invariant_of-columns : goal.invariant_of-columns
-invariant_of-columns c = record { accepted = (good (goal.at.invariant_of-columns c).In-Ok).topology.columns }
-
-pub invariant_of-accepted : goal.invariant_of-accepted
-invariant_of-accepted c = record { accepted = (good (goal.at.invariant_of-accepted c).In-Ok).topology }
+pub graph_of-graph-requires : goal.graph_of-graph-requires
+graph_of-graph-requires c = (good (goal.at.graph_of-graph-requires c).In-Ok).topology
 
 pub invariant_of-seeds : goal.invariant_of-seeds
 invariant_of-seeds c = record { accepted = (good (goal.at.invariant_of-seeds c).In-Ok).mask }
@@ -96,15 +91,15 @@ slice_bounds-repeat-end-in-Ok-3 c = sym (length-take-le _ _ (room-frontier (goal
 pub repeat-grown-requires : goal.repeat-grown-requires
 repeat-grown-requires c =
     let w = (goal.at.repeat-grown-requires c).After-words_for-need in
-    let n = needed w in
-    (refl, length-take-le _ _ (room-region w) ∙ n, length-take-le _ _ (room-frontier w) ∙ n, length-take-le _ _ (room-scratch w) ∙ n)
+    let n = needed w ∙ ap words_needed (sym c.graph_of-graph.ensures.0) in
+    (sym c.graph_of-graph.ensures.0, length-take-le _ _ (room-region w) ∙ n, length-take-le _ _ (room-frontier w) ∙ n, length-take-le _ _ (room-scratch w) ∙ n)
 
 pub returns-in-Ok-clause-value : goal.returns-in-Ok-clause-value
 returns-in-Ok-clause-value c =
     c.into-in-Ok.ensures
-    ∙ hops-told _ (plain_network c.args.topology.rows.nrows (side_holds c.args.topology.rows.row_word_ptr.now c.args.topology.rows.word_indices.now c.args.topology.rows.masks.now)) c.args.mask.words.now c.args.hops _ (ok (goal.at.returns-in-Ok-clause-value c).In-Ok) c.repeat-grown.ensures.value
+    ∙ hops-told _ (plain_network c.args.topology.rows.nrows (side_holds c.args.topology.rows.row_word_ptr.now c.args.topology.rows.word_indices.now c.args.topology.rows.masks.now)) c.args.mask.words.now c.args.hops _ (ok (goal.at.returns-in-Ok-clause-value c).In-Ok) (c.repeat-grown.ensures.value ∙ ap (λ (g : Network). grown_by g c.args.mask.words.now c.args.hops) (cc (c.graph_of-graph.ensures.0, side-pairs _ c.args.topology.rows c.graph_of-graph.result.topology.rows c.graph_of-graph.ensures.1)))
 
 pub returns-in-Ok-clause-spent : goal.returns-in-Ok-clause-spent
 returns-in-Ok-clause-spent c =
     let e = ok (goal.at.returns-in-Ok-clause-spent c).In-Ok in
-    on-accepted _ _ _ _ e (again-left _ _ _ _ (left_is _ _ _ _ e c.grow_undirected_region.ensures.spent) (zeros-long (goal.at.returns-in-Ok-clause-spent c).After-words_for-need) _ (scratch-zero _ _ c.repeat-grown.ensures.scratch_after))
+    on-accepted _ _ _ _ e (again-left _ _ _ _ (left_is _ _ _ _ e c.grow_undirected_region.ensures.spent) (zeros-long (goal.at.returns-in-Ok-clause-spent c).After-words_for-need) _ (scratch-zero _ _ c.repeat-grown.ensures.scratch_after ∙ ap (λ (n : ℕ). replicate (words_needed n) 0) c.graph_of-graph.ensures.0))

@@ -1,14 +1,14 @@
 -- `claims::inner::cut` meets its contract. Assumes nothing.
 use mathlib.Core.Path.{ap, ◌∙◌}
-use Rattle.claims.specs.Demand.{System, Planned}
-use Rattle.claims.specs.Views.{lent_system}
+use Rattle.claims.specs.Demand.{CutSystem, Planned}
+use Rattle.claims.specs.Views.{cut_system}
 use Rattle.claims.proofs.Cutting.{same-plan, cut-refused, values-kept, pointers_room, sources_room, cut-prepared, values-cut}
 use Rattle.claims.proofs.inner.cut.Goals.{Start}
 use Rattle.claims.proofs.inner.cut.Goals as goal
 
 -- the matrix, its topology and the region
-abbrev system : Start → System
-system s = lent_system s.args.topology s.args.matrix s.args.region.len s.args.region.words.now
+abbrev system : Start → CutSystem
+system s = cut_system s.args.topology s.args.matrix s.args.region.len s.args.region.words.now
 
 pub gather_own-gathered-requires : goal.gather_own-gathered-requires
 gather_own-gathered-requires c =

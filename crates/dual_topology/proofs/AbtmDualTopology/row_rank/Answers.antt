@@ -6,21 +6,18 @@ use Rattle.base.proofs.Checks.{handed, on-accepted, on-refused, group-pass, grou
 use Rattle.dual_topology.specs.Views.{width}
 use Rattle.dual_topology.proofs.AbtmDualTopology.row_rank.Goals as goal
 
-pub row_rank-requires : goal.row_rank-requires
-row_rank-requires c = (c.in_ok-side.ensures.found.inside, omega (arith, c.if-col-side.false))
+pub returns-in_err-row : goal.returns-in_err-row
+returns-in_err-row c = handed _ _ c.from_residual.ensures.1 ∙ on-refused _ _ _ Err (sym (group-stop _ _ _ (c.in_err-row.ensures.refused)))
 
-pub returns-in_err-side : goal.returns-in_err-side
-returns-in_err-side c = handed _ _ c.from_residual.ensures.1 ∙ on-refused _ _ _ Err (sym (group-stop _ _ _ (c.in_err-side.ensures.refused)))
-
-pub returns-then-col-side : goal.returns-then-col-side
-returns-then-col-side c =
-    let s = c.in_ok-side.ensures.found in
-    let past = lt-leb c.args.col (width c.args.self c.args.of) (omega (arith, c.if-col-side.true, s.wide)) in
+pub returns-then-col-row : goal.returns-then-col-row
+returns-then-col-row c =
+    let s = c.in_ok-row.ensures.found in
+    let past = lt-leb c.args.col (width c.args.self c.args.of) (omega (arith, c.if-col-row.true, s.wide)) in
     on-refused _ _ _ Err (sym (group-pass _ _ _ s.passed (last-stop _ _ _ past refl)))
 
 pub returns : goal.returns
 returns c =
-    let s = c.in_ok-side.ensures.found in
-    let within = le-leb c.args.col (width c.args.self c.args.of) (omega (arith, c.if-col-side.false, s.wide)) in
+    let s = c.in_ok-row.ensures.found in
+    let within = le-leb c.args.col (width c.args.self c.args.of) (omega (arith, c.if-col-row.false, s.wide)) in
     on-accepted _ _ _ _ (sym (group-pass _ _ _ s.passed (last-pass _ _ _ within refl)))
-    (ap Ok (c.row_rank.ensures ∙ ap (λ (p : ℕ → Bool). count_below c.args.col p) s.columns))
+    (ap Ok (c.rank.ensures ∙ ap (λ (p : ℕ → Bool). count_below c.args.col p) s.columns))

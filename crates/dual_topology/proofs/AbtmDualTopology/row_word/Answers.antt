@@ -4,13 +4,10 @@ use Rattle.base.proofs.Checks.{handed, on-accepted, on-refused}
 use Rattle.side.specs.Side.{word_at}
 use Rattle.dual_topology.proofs.AbtmDualTopology.row_word.Goals as goal
 
-pub row_word-requires : goal.row_word-requires
-row_word-requires c = c.in_ok-side.ensures.found.inside
-
-pub returns-in_err-side : goal.returns-in_err-side
-returns-in_err-side c = handed _ _ c.from_residual.ensures.1 ∙ on-refused _ _ _ Err c.in_err-side.ensures.refused
+pub returns-in_err-row : goal.returns-in_err-row
+returns-in_err-row c = handed _ _ c.from_residual.ensures.1 ∙ on-refused _ _ _ Err c.in_err-row.ensures.refused
 
 pub returns : goal.returns
 returns c =
-    let s = c.in_ok-side.ensures.found in
-    on-accepted _ _ _ _ s.passed (ap Ok (c.row_word.ensures ∙ ap₂ (λ (w : ℕ) (p : ℕ → Bool). word_at w p c.args.k) s.wide s.columns))
+    let s = c.in_ok-row.ensures.found in
+    on-accepted _ _ _ _ s.passed (ap Ok (c.word.ensures ∙ ap₂ (λ (w : ℕ) (p : ℕ → Bool). word_at w p c.args.k) s.wide s.columns))

@@ -1,11 +1,9 @@
 -- `dual_topology::AbtmDualTopology::validate` meets its contract. Assumes nothing.
-use Rattle.std.proofs.Common.{sym, ap, ◌∙◌, subst, IfOk}
-use Rattle.base.specs.Checks.{Check}
+use Rattle.std.proofs.Common.{sym, ap, ◌∙◌}
 use Rattle.base.proofs.Checks.{handed, group-pass, group-stop}
 use Rattle.side.specs.Check.{fault_check}
-use Rattle.side.proofs.Accepted.{limits_passed, if-sound}
+use Rattle.side.proofs.Accepted.{limits_passed}
 use Rattle.dual_topology.specs.Check.{topology_check}
-use Rattle.dual_topology.specs.Views.{SoundTopology}
 use Rattle.dual_topology.proofs.AbtmDualTopology.validate.Goals as goal
 
 pub fault-requires : goal.fault-requires
@@ -22,11 +20,15 @@ pub returns-in_err-check_limits-2-clause-value : goal.returns-in_err-check_limit
 unfolding topology_check
 returns-in_err-check_limits-2-clause-value c = handed _ _ c.from_residual-in_err-check_limits-2.ensures.1 ∙ group-pass _ _ _ (sym c.check_limits.ensures ∙ c.in_ok-check_limits.was) (group-stop _ _ _ (sym c.check_limits-2.ensures ∙ c.in_err-check_limits-2.was))
 
+pub returns-in_err-fault-clause-value : goal.returns-in_err-fault-clause-value
+unfolding topology_check fault_check
+returns-in_err-fault-clause-value c =
+    handed _ _ c.from_residual-in_err-fault.ensures.1
+    ∙ group-pass _ _ _ (sym c.check_limits.ensures ∙ c.in_ok-check_limits.was)
+    (group-pass _ _ _ (sym c.check_limits-2.ensures ∙ c.in_ok-check_limits-2.was) (ap fault_check (sym c.in_err-fault.was ∙ c.fault.ensures.value)))
+
 pub returns-clause-value : goal.returns-clause-value
-unfolding topology_check
+unfolding topology_check fault_check
 returns-clause-value c =
     group-pass _ _ _ (sym c.check_limits.ensures ∙ c.in_ok-check_limits.was)
-    (group-pass _ _ _ (sym c.check_limits-2.ensures ∙ c.in_ok-check_limits-2.was) (c.check.ensures ∙ ap fault_check c.fault.ensures.value))
-
-pub returns-clause-accepted : goal.returns-clause-accepted
-returns-clause-accepted c = subst (λ (r : Check). IfOk r (λ t. SoundTopology c.args.self)) (sym c.check.ensures) (if-sound _ c.fault.ensures.sound)
+    (group-pass _ _ _ (sym c.check_limits-2.ensures ∙ c.in_ok-check_limits-2.was) (ap fault_check (sym c.in_ok-fault.was ∙ c.fault.ensures.value)))

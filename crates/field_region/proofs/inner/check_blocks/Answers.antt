@@ -24,7 +24,7 @@ returns-then-owner-ranks c =
 pub owned-requires : goal.owned-requires
 owned-requires c =
     let k = block-at _ _ _ c.args.layout.totals c.loop-b-test.true in
-    (omega (arith, k), omega (arith, k))
+    (omega (arith, k, c.args.layout.filled c.loop-b.b), omega (arith, k), refl)
 
 pub returns-then-not-owned : goal.returns-then-not-owned
 returns-then-not-owned c =

@@ -1,10 +1,13 @@
 -- `growths::inner::grow_all` meets its contract. Assumes nothing.
-use Rattle.std.proofs.Common.{refl, arith}
+use Rattle.std.proofs.Common.{◌≡◌, refl, arith}
 use Rattle.growths.proofs.Growing.{turn-none, turn}
 use Rattle.growths.proofs.inner.grow_all.Goals as goal
 
 pub loop-i-init : goal.loop-i-init
-loop-i-init g c = turn-none _ _ _ _ _ _ _ _ _
+loop-i-init g c =
+    let e = c.default-ran.ensures in
+    let none : c.default-ran.result ≡ record { accepted = 0; total = 0; last = 0 } = (λ i. record { accepted = e.0 i; total = e.1.0 i; last = e.1.1 i }) in
+    rw none (turn-none _ _ _ _ _ _ _ _ _)
 
 pub loop-i-preserved : goal.loop-i-preserved
 loop-i-preserved g c =

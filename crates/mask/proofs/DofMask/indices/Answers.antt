@@ -4,6 +4,6 @@ use Rattle.base.proofs.Checks.{handed, on-refused, group-stop}
 use Rattle.mask.specs.Answers.{indices_check}
 use Rattle.mask.proofs.DofMask.indices.Goals as goal
 
-pub returns-in_err-check-clause-value : goal.returns-in_err-check-clause-value
+pub returns-in_err-mask-clause-value : goal.returns-in_err-mask-clause-value
 unfolding indices_check
-returns-in_err-check-clause-value c = handed _ _ c.from_residual.ensures.1 ∙ on-refused _ _ _ Err (sym (group-stop _ _ _ (sym c.check.ensures.value ∙ c.in_err-check.was)))
+returns-in_err-mask-clause-value c = handed _ _ c.from_residual.ensures.1 ∙ on-refused _ _ _ Err (sym (group-stop _ _ _ c.in_err-mask.ensures.refused))

@@ -1,18 +1,14 @@
 -- `multiplicity::inner::all_clean` meets its contract. Assumes nothing.
-use Rattle.std.proofs.Common.{rules, arith, below_more}
-use Rattle.multiplicity.proofs.Regions.{all-i, all_whole, all-stop, clean-next}
+use Rattle.std.proofs.Common.{refl, ◌∙◌, arith, rules, tests}
+use Rattle.std.proofs.lemmas.Iterator.{YieldsList-from_range}
+use Rattle.std.proofs.lemmas.Iterator.Search.{all_from_yields_List}
+use Rattle.multiplicity.proofs.Regions.{all_whole, all-last, last_none}
 use Rattle.multiplicity.proofs.inner.all_clean.Goals as goal
 
 pub returns-then-spare-eq0 : goal.returns-then-spare-eq0
 returns-then-spare-eq0 c = all_whole _ _ _ c.requires.2 c.if-spare-eq0.true
 
-pub returns-then-words-q-ne0 : goal.returns-then-words-q-ne0
-returns-then-words-q-ne0 c =
-    all-stop _ _ _ c.requires.2 _ c.loop-q-test.true c.if-spare-eq0.false (search rules) (rw c.words_for-each.ensures at c.if-words-q-ne0.true)
-
-pub loop-q-preserved : goal.loop-q-preserved
-loop-q-preserved c =
-    below_more _ _ c.loop-q.invariant (clean-next _ _ _ c.requires.2 _ c.loop-q-test.true c.if-spare-eq0.false (rw c.words_for-each.ensures at c.if-words-q-ne0.false))
-
 pub returns : goal.returns
-returns c = all-i _ _ _ c.requires.2 (λ p h. c.loop-q.invariant p (omega arith))
+returns c =
+    all_from_yields_List (last_none c.words_for-each.result c.args.node_count c.args.words.now) _ _ _ c.all.ensures.ran (YieldsList-from_range 0 c.args.region_count c.args.region_count refl (omega arith)) (λ x b q k. search (rules, tests))
+    ∙ rw c.words_for-each.ensures (all-last _ _ _ c.requires.2 c.if-spare-eq0.false (search rules))

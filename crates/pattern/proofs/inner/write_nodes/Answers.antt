@@ -1,36 +1,34 @@
 -- `pattern::inner::write_nodes` meets its contract. The invariants: still to come are the members of the word's bits that are left, then those of later
 -- words. Assumes nothing.
 use mathlib.Core.Path.{◌≡◌, sym, ap, ◌∙◌, subst}
-use mathlib.Core.List.{List, ◌∷◌, map, ◌++◌}
+use mathlib.Core.List.{List, ◌∷◌}
 use Prim.Native.Nat.{ℕ, ◌+◌, ◌-◌, ◌*◌, ◌<◌, ◌^◌}
 use native.Mathlib.Omega.{arith}
-use lib.Bits.{bit_and}
-use lib.Count.{count_trailing_zeros, trailing_le}
 use lib.ListN.{length}
 use Rattle.base.specs.Lists.{over}
 use Rattle.base.specs.Sets.{count_below, members_from}
 use Rattle.base.proofs.Sets.{members-zero, count-members}
-use Rattle.word.proofs.Bits.{lowest, no_bits}
+use Rattle.word.specs.Bits.{set_bits}
+use Rattle.word.proofs.Bits.{head_bit}
 use Rattle.mask.specs.Mask.{in_mask}
 use Rattle.mask.proofs.Masks.{is-length}
-use Rattle.mask.proofs.Passes.{ahead, open-word, members-all}
+use Rattle.mask.proofs.Passes.{open-word, members-all}
 use Rattle.pattern.proofs.Coming.{Coming, coming_over, coming_none, coming_in, coming_next}
 use Rattle.pattern.proofs.inner.write_nodes.Invariants.{members, left}
-use Rattle.pattern.proofs.inner.write_nodes.Goals.{In-loop-bits, In-loop-w, Start}
+use Rattle.pattern.proofs.inner.write_nodes.Goals.{In-Some, In-loop-w, Start}
 use Rattle.pattern.proofs.inner.write_nodes.Goals as goal
 
 -- a word's nodes are numbers of 32 bits
 low : (c : In-loop-w) → 64 * c.loop-w.w + 64 < 2 ^ 32
 low c = omega (arith, is-length _ _ c.args.region.accepted, c.args.region.accepted.short)
 
--- the lowest of the bits that are left
-turn : (c : In-loop-bits) → left c.args.region.words.now c.loop-w.w c.loop-bits.bits
-    ≡ (c.loop-w.w * 64 + count_trailing_zeros 64 c.loop-bits.bits) ∷ left c.args.region.words.now c.loop-w.w (bit_and c.loop-bits.bits (c.loop-bits.bits - 1))
+-- the next of the bits that are left
+turn : (c : In-Some) → left c.args.region.words.now c.loop-w.w (set_bits c.loop-bit.bit-iterator.left)
+    ≡ (c.loop-w.w * 64 + c.in-Some.bit) ∷ left c.args.region.words.now c.loop-w.w (set_bits c.next.new.self.left)
 turn c =
     let w = c.loop-w.w in
-    let e : 64 * w + count_trailing_zeros 64 c.loop-bits.bits ≡ w * 64 + count_trailing_zeros 64 c.loop-bits.bits = omega arith in
-    ap (λ (m : List ℕ). map (λ (i : ℕ). 64 * w + i) m ++ ahead c.args.region.words.now (w + 1)) (lowest 64 c.loop-bits.bits (omega arith) (omega arith))
-    ∙ ap (λ (x : ℕ). x ∷ left c.args.region.words.now w (bit_and c.loop-bits.bits (c.loop-bits.bits - 1))) e
+    let e : 64 * w + c.in-Some.bit ≡ w * 64 + c.in-Some.bit = omega arith in
+    ap (left c.args.region.words.now w) c.in-Some.ensures.steps ∙ ap (λ (x : ℕ). x ∷ left c.args.region.words.now w (set_bits c.next.new.self.left)) e
 
 pub loop-w-init : goal.loop-w-init
 loop-w-init c =
@@ -46,24 +44,24 @@ overflow_mul-first c = omega (arith, low (goal.at.overflow_mul-first c).In-loop-
 pub overflow_cast-first : goal.overflow_cast-first
 overflow_cast-first c = omega (arith, low (goal.at.overflow_cast-first c).In-loop-w)
 
-pub loop-bits-init : goal.loop-bits-init
-loop-bits-init c = rw (sym (open-word c.args.region.words.now c.loop-w.w (omega arith))) c.loop-w.invariant
+pub loop-bit-init : goal.loop-bit-init
+loop-bit-init c = rw (c.into_iter-bit-iterator.ensures.into_iter_gives, c.of-bit-items.ensures, sym (open-word c.args.region.words.now c.loop-w.w (omega arith))) c.loop-w.invariant
 
 pub overflow_add-nodes : goal.overflow_add-nodes
-overflow_add-nodes c = omega (arith, trailing_le 64 c.loop-bits.bits, low (goal.at.overflow_add-nodes c).In-loop-w)
+overflow_add-nodes c = omega (arith, head_bit _ _ _ c.in-Some.ensures.steps, low (goal.at.overflow_add-nodes c).In-loop-w)
 
 pub bounds-nodes-k : goal.bounds-nodes-k
-bounds-nodes-k c = coming_in c.loop-bits.invariant _ _ (turn (goal.at.bounds-nodes-k c).In-loop-bits) (omega arith)
+bounds-nodes-k c = coming_in c.loop-bit.invariant _ _ (turn (goal.at.bounds-nodes-k c).In-Some) (omega arith)
 
-pub loop-bits-preserved : goal.loop-bits-preserved
-loop-bits-preserved c = coming_next c.loop-bits.invariant _ _ (turn (goal.at.loop-bits-preserved c).In-loop-bits) (omega arith)
+pub loop-bit-preserved : goal.loop-bit-preserved
+loop-bit-preserved c = coming_next c.loop-bit.invariant _ _ (turn (goal.at.loop-bit-preserved c).In-Some) (omega arith)
 
 pub loop-w-preserved : goal.loop-w-preserved
 loop-w-preserved c =
     let region = c.args.region.words.now in
-    subst (λ (X : List ℕ). Coming (count_below c.args.region.len (in_mask region)) (over (members c.args.region.len region) c.args.nodes.now) c.loop-bits.k X c.loop-bits.nodes)
-    (ap (left region c.loop-w.w) c.loop-bits-test.false ∙ ap (λ (m : List ℕ). map (λ (i : ℕ). 64 * c.loop-w.w + i) m ++ ahead region (c.loop-w.w + 1)) (no_bits 64))
-    c.loop-bits.invariant
+    subst (λ (X : List ℕ). Coming (count_below c.args.region.len (in_mask region)) (over (members c.args.region.len region) c.args.nodes.now) c.loop-bit.k X c.loop-bit.nodes)
+    (ap (left region c.loop-w.w) c.in-None.ensures.steps.0)
+    c.loop-bit.invariant
 
 pub returns : goal.returns
 returns c =

@@ -15,14 +15,11 @@ abbrev pub members : ℕ → List ℕ → List ℕ
 members n region = members_below n (in_mask region)
 
 -- the members of a word of which these bits are left, then those of later words
-abbrev pub left : List ℕ → ℕ → ℕ → List ℕ
-left region w bits = map (λ (i : ℕ). 64 * w + i) (set_bits bits) ++ ahead region (w + 1)
+abbrev pub left : List ℕ → ℕ → List ℕ → List ℕ
+left region w bits = map (λ (i : ℕ). 64 * w + i) bits ++ ahead region (w + 1)
 
-abbrev pub invariant-loop-bits : goal.invariant-loop-bits
-invariant-loop-bits l = Coming (count_below l.region.len (in_mask l.region.words.now)) (over (members l.region.len l.region.words.now) l.fn.nodes) l.k (left l.region.words.now l.w l.bits) l.nodes
-
-abbrev pub decreases-loop-bits : goal.decreases-loop-bits
-decreases-loop-bits l = l.bits
+abbrev pub invariant-loop-bit : goal.invariant-loop-bit
+invariant-loop-bit l = Coming (count_below l.region.len (in_mask l.region.words.now)) (over (members l.region.len l.region.words.now) l.fn.nodes) l.k (left l.region.words.now l.w (set_bits l.bit-iterator.left)) l.nodes
 
 abbrev pub invariant-loop-w : goal.invariant-loop-w
 invariant-loop-w l = Coming (count_below l.region.len (in_mask l.region.words.now)) (over (members l.region.len l.region.words.now) l.fn.nodes) l.k (ahead l.region.words.now l.w) l.nodes

@@ -18,6 +18,6 @@ pub returns : goal.returns
 returns c =
     let text = λ (o : Option JobRead). judged_text o c.args.blocks.now c.args.ptr.now c.args.cols.now c.args.seeds.now in
     let same = sym (ap text c.in-Some.is ∙ judged-on c.in-Some.job c.args.blocks.now c.args.ptr.now c.args.cols.now c.args.seeds.now (sym c.fits.ensures ∙ c.if-not-fits.false)) in record {
-      value = c.ask.ensures.value ∙ ap (λ (x : List ℕ). text_answer x c.args.out.now) same;
-      out_after = c.ask.ensures.out_after ∙ ap (λ (x : List ℕ). text_left x c.args.out.now) same;
+      value = c.answer.ensures.value ∙ ap (λ (x : List ℕ). text_answer x c.args.out.now) same;
+      out_after = c.answer.ensures.out_after ∙ ap (λ (x : List ℕ). text_left x c.args.out.now) same;
     }

@@ -3,17 +3,18 @@ use mathlib.Core.Path.{◌≡◌, sym, ap, ◌∙◌, subst}
 use Rattle.std.specs.Prelude.{Ok, Err}
 use Rattle.base.specs.Checks.{Check}
 use mathlib.Core.List.{List}
-use Prim.Native.Nat.{ℕ, ◌≤◌}
+use Prim.Native.Nat.{ℕ, ◌+◌}
 use native.Mathlib.Omega.{arith}
-use lib.ListN.{length}
+use lib.ListN.{length, take}
 use Rattle.base.specs.Checks.{◌then◌}
 use Rattle.base.specs.Lists.{over}
+use Rattle.base.specs.Sets.{members_below}
 use Rattle.base.proofs.Checks.{both-passed}
 use Rattle.base.proofs.Sets.{count-le}
 use Rattle.csr32.specs.Matrix.{IsMatrix}
 use Rattle.csr32.specs.Views.{check_matrix}
 use Rattle.csr32.proofs.Matrix.{accepted}
-use Rattle.mask.specs.Mask.{words_needed}
+use Rattle.mask.specs.Mask.{in_mask, IsMask}
 use Rattle.dof_layout.specs.Views.{check_square, total}
 use Rattle.graph.specs.Network.{frontier_words}
 use Rattle.field_region.proofs.Accepted.{accepted-square}
@@ -21,7 +22,7 @@ use Rattle.prepared_field_region.specs.Prepared.{prepare_room, prepare_inputs, p
 use Rattle.prepared_field_region.specs.Views.{check_prepare, network, grown}
 use Rattle.prepared_field_region.specs.Views as lent
 use Rattle.prepared_field_region.specs.declared.PreparedFieldAwareLocalRegion.{PreparedFieldAwareLocalRegion}
-use Rattle.job_text.specs.Answer.{text_answer, text_left}
+use Rattle.job_text.specs.Answer.{result_lines, text_answer, text_left}
 use Rattle.peak_job.specs.Answer.{text_of}
 use Rattle.peak_job.specs.Views.{lent_text}
 use Rattle.peak_job.proofs.Regions.{check-is, room-enough, prepared, refused, left_is, frontier_room, pairs_fit, text-is}
@@ -66,6 +67,13 @@ module _ (c : In-Ok) where
   edge : c.prepare_region.new.frontier ≡ over (frontier_words (network s.args.matrix s.args.layout) s.args.seeds.words.now s.args.hops) s.args.frontier.now
   edge = left_is _ _ _ _ c.prepare_region.ensures.edge told.0
 
+-- the frontier's words are a mask
+pub invariant_of-reached : goal.invariant_of-reached
+invariant_of-reached c =
+    let o = (goal.at.invariant_of-reached c).In-Ok in
+    let n = c.args.matrix.nrows in
+    record { accepted = subst (λ (k : ℕ). IsMask n (take k c.prepare_region.new.frontier)) (sym c.words_for-need.ensures) (frontier_room n _ _ _ _ _ (matrix o) (sized o) _ c.args.frontier.now (edge o)) }
+
 pub report-requires : goal.report-requires
 report-requires c =
     let o = (goal.at.report-requires c).In-Ok in
@@ -73,14 +81,11 @@ report-requires c =
     let i = c.requires.inputs in
     let a = c.requires.room in
     let r = c.prepare_region in
-    let few : words_needed n ≤ 4 = omega (arith, i.few) in
     let members = ap (λ (x : PreparedFieldAwareLocalRegion). x.pattern.local_nodes) (told o).1 in
     let pairs = ap (λ (x : PreparedFieldAwareLocalRegion). x.pattern.local_nnz) (told o).1 in
     let m = count-le n (grown c.args.matrix c.args.layout c.args.seeds c.args.hops) in
     let k = pairs_fit n c.args.matrix.row_ptr.now c.args.matrix.col_idx.now c.args.layout.blocks.components.now c.args.seeds.words.now c.args.hops (matrix o) (sized o) in (
       i.few,
-      omega (arith, few, a.reached, r.auto.frontier),
-      frontier_room n _ _ _ _ _ (matrix o) (sized o) _ c.args.frontier.now (edge o),
       omega (arith, members, m, i.few),
       omega (arith, pairs, k, i.short),
       omega (arith, members, m, i.few, a.members, r.auto.global_nodes),
@@ -106,7 +111,9 @@ returns-in-Ok c =
     (ap (λ (x : PreparedFieldAwareLocalRegion). x.pattern.local_nodes) a.1) (ap (λ (x : PreparedFieldAwareLocalRegion). x.pattern.local_nnz) a.1) (ap (λ (x : PreparedFieldAwareLocalRegion). x.growth.hops_completed) a.1)
     r.new.global_nodes r.new.frontier r.new.local_row_ptr r.new.local_col_idx c.args.members.now c.args.frontier.now c.args.local_ptr.now c.args.local_cols.now
     (left_is _ _ _ _ r.ensures.members a.0) (edge o) (left_is _ _ _ _ r.ensures.pointers a.0) (left_is _ _ _ _ r.ensures.columns a.0) in
-    let whole = same ∙ sym (ap (λ (x : Check). text_of x (lent_text c.args.matrix c.args.layout c.args.seeds c.args.hops)) (ok o)) in record {
+    let p = c.in-Ok.p in
+    let front = ap (λ (k : ℕ). result_lines (take p.pattern.local_nodes r.new.global_nodes) (members_below c.args.matrix.nrows (in_mask (take k r.new.frontier))) p.growth.hops_completed (take (p.pattern.local_nodes + 1) r.new.local_row_ptr) (take p.pattern.local_nnz r.new.local_col_idx)) c.words_for-need.ensures in
+    let whole = front ∙ same ∙ sym (ap (λ (x : Check). text_of x (lent_text c.args.matrix c.args.layout c.args.seeds c.args.hops)) (ok o)) in record {
       value = c.report.ensures.value ∙ ap (λ (x : List ℕ). text_answer x c.args.out.now) whole;
       out_after = c.report.ensures.out_after ∙ ap (λ (x : List ℕ). text_left x c.args.out.now) whole;
     }

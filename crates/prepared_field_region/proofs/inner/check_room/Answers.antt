@@ -3,6 +3,7 @@ use mathlib.Core.Path.{sym, ◌∙◌}
 use Rattle.base.proofs.Checks.{handed}
 use Rattle.base.proofs.Checks.{group-pass, group-stop}
 use Rattle.prepared_field_region.specs.Prepared.{prepare_room}
+use Rattle.prepared_field_region.proofs.Accepted.{plan-room}
 use Rattle.prepared_field_region.proofs.inner.check_room.Goals as goal
 
 pub returns-in_err-check_room : goal.returns-in_err-check_room
@@ -15,4 +16,4 @@ returns-in_err-check_room-2 c = handed _ _ c.from_residual-in_err-check_room-2.e
 
 pub returns : goal.returns
 unfolding prepare_room
-returns c = group-pass _ _ _ (sym c.check_room.ensures ∙ c.in_ok-check_room.was) (group-pass _ _ _ (sym c.check_room-2.ensures.value ∙ c.in_ok-check_room-2.was) c.check_local.ensures)
+returns c = group-pass _ _ _ (sym c.check_room.ensures ∙ c.in_ok-check_room.was) (group-pass _ _ _ (sym c.check_room-2.ensures.value ∙ c.in_ok-check_room-2.was) (c.check_room-3.ensures ∙ plan-room _ _ _ _ _ _ _))

@@ -3,7 +3,7 @@ use lib.Dec.{leb}
 use borrow.Author.Tests.{leb-true}
 use Rattle.base.proofs.Lists.{pairwise-at}
 use Rattle.side.specs.Check.{side_fault, lists_agree}
-use Rattle.side.proofs.Accepted.{sound-side}
+use Rattle.side.proofs.Accepted.{if-sound, sound-side}
 use Rattle.side.proofs.inner.first_fault.Goals as goal
 
 pub check_words-requires : goal.check_words-requires
@@ -22,7 +22,7 @@ check_words-requires c = (
 
 pub returns-clause-sound : goal.returns-clause-sound
 unfolding side_fault lists_agree
-returns-clause-sound c = λ e.
+returns-clause-sound c =
     let a = c.args in
     let value : c.check_words.result ≡ side_fault a.nrows a.ncols a.row_word_ptr.now a.word_indices.now a.masks.now a.structural_nnz = search rules in
-    sound-side _ _ _ _ _ _ c.requires.0 c.requires.1 c.requires.2 c.requires.3 (λ k. (c.type_inv.masks k).fits) (sym value ∙ e)
+    if-sound _ (λ e. sound-side _ _ _ _ _ _ c.requires.0 c.requires.1 c.requires.2 c.requires.3 (λ k. (c.type_inv.masks k).fits) (sym value ∙ e))

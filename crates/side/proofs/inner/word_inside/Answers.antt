@@ -3,11 +3,11 @@ use borrow.Author.Rules.{rules}
 use Rattle.side.proofs.Words.{inside-none, inside-whole, inside-part}
 use Rattle.side.proofs.inner.word_inside.Goals as goal
 
-pub returns-then-ncols-base : goal.returns-then-ncols-base
-returns-then-ncols-base c = inside-none _ _ _ c.requires.0 (search rules) c.if-ncols-base.true
+pub returns-then-ncols-first : goal.returns-then-ncols-first
+returns-then-ncols-first c = inside-none _ _ _ c.requires.0 (search rules) c.if-ncols-first.true
 
 pub returns-then-left-ge-BITS : goal.returns-then-left-ge-BITS
-returns-then-left-ge-BITS c = inside-whole _ _ _ c.if-ncols-base.false c.if-left-ge-BITS.true
+returns-then-left-ge-BITS c = inside-whole _ _ _ c.if-ncols-first.false c.if-left-ge-BITS.true
 
 pub returns : goal.returns
-returns c = inside-part _ _ _ (search rules) c.if-ncols-base.false c.if-left-ge-BITS.false
+returns c = inside-part _ _ _ (search rules) c.if-ncols-first.false c.if-left-ge-BITS.false

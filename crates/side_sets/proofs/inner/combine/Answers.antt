@@ -12,16 +12,19 @@ use Rattle.side_sets.proofs.inner.combine.Goals as goal
 pub loop-row-init : goal.loop-row-init
 loop-row-init c = sofar-none _ _ _ c.args.row_word_ptr.now _ _ (omega (arith, c.requires.1))
 
+pub row-requires-in-loop-row : goal.row-requires-in-loop-row
+row-requires-in-loop-row c = omega (arith, c.loop-row-test.true, c.requires.0.shape.rows, c.args.b.accepted.shape.rows)
+
 pub combine_row-end-requires : goal.combine_row-end-requires
 combine_row-end-requires c =
     let s = c.loop-row.invariant in
     let u = own_at c.args.a.accepted _ c.loop-row-test.true in
     let v = own_at c.requires.0 _ c.loop-row-test.true in
-    (u, v, omega (arith, s.high, u.order, v.order, u.masks_long, v.masks_long, s.idx_kept.long, c.requires.2), omega (arith, s.high, u.order, v.order, u.masks_long, v.masks_long, s.masks_kept.long, c.requires.3))
+    (omega (arith, s.high, u.order, v.order, u.masks_long, v.masks_long, c.row.ensures.long, c.row-in-loop-row.ensures.long, s.idx_kept.long, c.requires.2), omega (arith, s.high, u.order, v.order, u.masks_long, v.masks_long, c.row.ensures.long, c.row-in-loop-row.ensures.long, s.masks_kept.long, c.requires.3))
 
 row : (c : After-combine_row-end) → NewRow (pairwise_pairs (on c.args.op) (side_holds c.args.a.row_word_ptr.now c.args.a.word_indices.now c.args.a.masks.now) (side_holds c.args.b.row_word_ptr.now c.args.b.word_indices.now c.args.b.masks.now) c.loop-row.row)
     c.loop-row.word_indices c.loop-row.masks c.combine_row-end.new.word_indices c.combine_row-end.new.masks c.loop-row.to c.combine_row-end.result (both c.args.a.row_word_ptr.now c.args.b.row_word_ptr.now (c.loop-row.row + 1))
-row c = new_row (on c.args.op) (off c.args.op) c.args.a.accepted c.requires.0 _ c.loop-row-test.true c.loop-row.invariant.high c.combine_row-end.ensures
+row c = new_row (on c.args.op) (off c.args.op) c.args.a.accepted c.requires.0 _ c.loop-row-test.true c.loop-row.invariant.high (rw (c.row.ensures.columns, c.row-in-loop-row.ensures.columns, c.row.ensures.long, c.row-in-loop-row.ensures.long) at c.combine_row-end.ensures)
 
 -- the new end is not past the words of both sides
 inside : (c : After-combine_row-end) → c.combine_row-end.result ≤ length c.args.a.masks.now + length c.args.b.masks.now
@@ -33,7 +36,7 @@ count_bits-requires c =
     let g = c.combine_row-end.ensures in
     let s = c.loop-row.invariant in
     let m : c.combine_row-end.result ≤ length c.combine_row-end.new.masks = omega (arith, inside w, g.masks_kept.long, s.masks_kept.long, c.requires.3) in
-    (g.low, m, row-few (on c.args.op) (off c.args.op) c.args.a.accepted c.requires.0 _ c.loop-row-test.true s.high g (omega (arith, inside w, g.idx_kept.long, s.idx_kept.long, c.requires.2)) m)
+    (g.low, m, row-few (on c.args.op) (off c.args.op) c.args.a.accepted c.requires.0 _ c.loop-row-test.true (row w) (omega (arith, inside w, g.idx_kept.long, s.idx_kept.long, c.requires.2)) m)
 
 pub overflow_add-pairs : goal.overflow_add-pairs
 overflow_add-pairs c =

@@ -1,12 +1,12 @@
 -- The words below a bound are merged, and both rows go on at or past it.
-use Rattle.std.proofs.Common.{◌+◌, ◌-◌}
+use Rattle.std.proofs.Common.{◌+◌, ◌-◌, length}
 use Rattle.word.specs.Answers.{on}
 use Rattle.side_sets.proofs.Merging.{Merging}
 use Rattle.side_sets.proofs.inner.combine_row.Given as goal
 
-abbrev pub invariant-loop-a : goal.invariant-loop-a
-invariant-loop-a l =
-    Merging (on l.op) l.words_a l.masks_a l.a_from l.a_end l.words_b l.masks_b l.b_from l.b_end l.from l.initial.word_indices l.initial.masks l.word_indices l.masks l.a l.b l.to
+abbrev pub invariant-loop-i : goal.invariant-loop-i
+invariant-loop-i l =
+    Merging (on l.op) l.a.word_indices.now l.a.masks.now 0 (length l.a.masks.now) l.b.word_indices.now l.b.masks.now 0 (length l.b.masks.now) l.from l.initial.word_indices l.initial.masks l.word_indices l.masks l.i l.j l.to
 
-abbrev pub decreases-loop-a : goal.decreases-loop-a
-decreases-loop-a l = l.a_end + l.b_end - (l.a + l.b)
+abbrev pub decreases-loop-i : goal.decreases-loop-i
+decreases-loop-i l = length l.a.masks.now + length l.b.masks.now - (l.i + l.j)

@@ -2,5 +2,5 @@
 use Rattle.twins.specs.Keys.{Twin}
 use Rattle.twins.proofs.inner.first_twin.Given as goal
 
-abbrev pub invariant-loop-class : goal.invariant-loop-class
-invariant-loop-class l = Twin l.keys l.last 0 l.class l.count l.twin
+abbrev pub invariant-loop-number : goal.invariant-loop-number
+invariant-loop-number l = Twin l.keys l.last 0 l.number l.count l.twin

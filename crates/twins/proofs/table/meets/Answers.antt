@@ -11,13 +11,13 @@ use Rattle.twins.proofs.table.meets.Goals as goal
 pub returns-then-met-eq0-clause-value : goal.returns-then-met-eq0-clause-value
 returns-then-met-eq0-clause-value c =
     let a = c.args in
-    let once : repeated a.keys a.b ≡ false = fresh a.keys c.loop-s.table a.last_class a.class a.last_slot a.b c.loop-s.invariant.0 c.loop-s.s (cc) c.loop-s.invariant.1 (omega arith) c.if-met-eq0.true in
+    let once : repeated a.keys a.b ≡ false = fresh a.keys c.loop-s.table a.class.last a.class.number a.last_slot a.b c.loop-s.invariant.0 c.loop-s.s (cc) c.loop-s.invariant.1 (omega arith) c.if-met-eq0.true in
     search rules
 
 pub returns-then-met-eq0-clause-table : goal.returns-then-met-eq0-clause-table
 returns-then-met-eq0-clause-table c = λ e.
     let a = c.args in
-    taken_in a.keys c.loop-s.table a.last_class a.class a.last_slot a.b c.loop-s.invariant.0 c.loop-s.s c.loop-s.invariant.1 (omega arith) c.if-met-eq0.true
+    taken_in a.keys c.loop-s.table a.class.last a.class.number a.last_slot a.b c.loop-s.invariant.0 c.loop-s.s c.loop-s.invariant.1 (omega arith) c.if-met-eq0.true
 
 -- the comparison of the two keys
 compared : (c : After-eq) → c.eq.result ≡ alike c.args.keys (slice_index_or c.loop-s.table c.loop-s.s 0 - 1) c.args.b

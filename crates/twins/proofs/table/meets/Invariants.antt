@@ -4,4 +4,4 @@ use Rattle.twins.proofs.Tables.{Walked}
 use Rattle.twins.proofs.table.meets.Given as goal
 
 abbrev pub invariant-loop-s : goal.invariant-loop-s
-invariant-loop-s l = Table l.keys l.table l.last_class l.class l.last_slot l.b × Walked l.keys l.table l.last_slot l.b l.s
+invariant-loop-s l = Table l.keys l.table l.fn.class.last l.fn.class.number l.last_slot l.b × Walked l.keys l.table l.last_slot l.b l.s

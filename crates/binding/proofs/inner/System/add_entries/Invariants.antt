@@ -1,8 +1,9 @@
 -- `binding::inner::System::add_entries` meets its contract. The invariant: the columns of the entries before e have joined. Assumes nothing.
 use mathlib.Core.Path.{◌≡◌}
+use Prim.Native.Nat.{◌+◌}
 use Rattle.mask.specs.Mask.{mask_words}
 use Rattle.binding.proofs.Seen.{joined}
 use Rattle.binding.proofs.inner.System.add_entries.Given as goal
 
-abbrev pub invariant-loop-e : goal.invariant-loop-e
-invariant-loop-e l = l.seen ≡ mask_words l.self.local.region.len (joined l.self.local.region.len l.self.matrix.col_idx.now l.initial.seen l.from l.e)
+abbrev pub invariant-loop-column : goal.invariant-loop-column
+invariant-loop-column l = l.seen ≡ mask_words l.self.local.region.len (joined l.self.local.region.len l.self.matrix.col_idx.now l.initial.seen l.from (l.from + l.column-index))

@@ -1,24 +1,38 @@
--- `binding::inner::System::count_sources` meets its contract. The invariant: the entries of the members below r are counted. Assumes nothing.
-use Prim.Native.Nat.{◌+◌}
+-- `binding::inner::System::count_sources` meets its contract. The invariant: the entries of the members before the one that comes next are counted.
+-- Assumes nothing.
+use mathlib.Core.Path.{◌≡◌, refl}
 use native.Mathlib.Omega.{arith}
-use Rattle.mask.proofs.Nexts.{Next, next-is}
-use Rattle.binding.proofs.Sources.{sources-first, sources_room, sources-turn}
-use Rattle.binding.proofs.inner.System.count_sources.Goals.{After-next_member-r-in-loop-r}
+use Rattle.mask.proofs.Nexts.{Given, walk-starts, walk-gives}
+use Rattle.binding.proofs.Sources.{Counting, sources-first, sources_room, sources-turn}
+use Rattle.binding.proofs.inner.System.count_sources.Goals.{In-Some}
 use Rattle.binding.proofs.inner.System.count_sources.Goals as goal
 
--- the member after r
-next : (c : After-next_member-r-in-loop-r) → Next c.args.self.local.region.len c.args.self.local.region.words.now (c.loop-r.r + 1) c.next_member-r-in-loop-r.result
-next c = next-is _ _ _ _ (omega (arith, c.loop-r-test.true)) c.next_member-r-in-loop-r.ensures
+module _ (c : In-Some) where
+  -- member r came
+  came : Given c.args.self.local.region.len c.args.self.local.region.words.now c.loop-r.r-iterator c.in-Some.r c.next.new.self
+  came = walk-gives _ _ _ c.loop-r.invariant.0 _ _ c.in-Some.ensures.steps
+
+  before : Counting c.args.self.local.region.len c.args.self.local.region.words.now c.args.self.matrix.row_ptr.now c.args.self.matrix.col_idx.now c.loop-r.sources c.in-Some.r
+  before = rw came.here c.loop-r.invariant.1
 
 pub loop-r-init : goal.loop-r-init
-loop-r-init c = sources-first c.args.self.local.region.len c.args.self.local.region.words.now c.args.self.matrix.row_ptr.now c.args.self.matrix.col_idx.now _ (next-is _ _ _ _ (omega arith) c.next_member-r.ensures)
+loop-r-init c =
+    let from : c.into_iter-r-iterator.result ≡ c.members-r-items.result = c.into_iter-r-iterator.ensures.into_iter_gives in (
+      record { sized = rw from (rw c.members-r-items.ensures.mask refl); held = rw from (rw c.members-r-items.ensures.mask refl) },
+      sources-first c.args.self.local.region.len c.args.self.local.region.words.now c.args.self.matrix.row_ptr.now c.args.self.matrix.col_idx.now _ (walk-starts _ _ c.into_iter-r-iterator.result (rw from c.members-r-items.ensures.at)),
+    )
+
+pub count_inside-sources-requires : goal.count_inside-sources-requires
+count_inside-sources-requires c = (came (goal.at.count_inside-sources-requires c).In-Some).inside
 
 pub overflow_add-sources : goal.overflow_add-sources
 overflow_add-sources c =
-    let l = c.loop-r in
-    omega (arith, sources_room c.args.self.local.region.len c.args.self.local.region.words.now c.args.self.matrix.row_ptr.now c.args.self.matrix.col_idx.now l.sources l.r _ l.invariant c.loop-r-test.true c.count_inside-sources.ensures c.args.self.square)
+    let s = (goal.at.overflow_add-sources c).In-Some in
+    omega (arith, sources_room c.args.self.local.region.len c.args.self.local.region.words.now c.args.self.matrix.row_ptr.now c.args.self.matrix.col_idx.now c.loop-r.sources c.in-Some.r _ (before s) (came s).inside c.count_inside-sources.ensures c.args.self.square)
 
 pub loop-r-preserved : goal.loop-r-preserved
 loop-r-preserved c =
-    let l = c.loop-r in
-    sources-turn c.args.self.local.region.len c.args.self.local.region.words.now c.args.self.matrix.row_ptr.now c.args.self.matrix.col_idx.now l.sources l.r _ l.invariant c.loop-r-test.true c.count_inside-sources.ensures _ (next (goal.at.loop-r-preserved c).After-next_member-r-in-loop-r)
+    let s = (goal.at.loop-r-preserved c).In-Some in (
+      (came s).over,
+      sources-turn c.args.self.local.region.len c.args.self.local.region.words.now c.args.self.matrix.row_ptr.now c.args.self.matrix.col_idx.now c.loop-r.sources c.in-Some.r _ (before s) (came s).inside c.count_inside-sources.ensures _ (came s).next,
+    )

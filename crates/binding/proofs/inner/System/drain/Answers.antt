@@ -1,40 +1,69 @@
 -- `binding::inner::System::drain` meets its contract. The invariant: what is left in the mask are columns of the entries from e on, and what was inside
 -- the region was found or is left. Assumes nothing.
-use Prim.Native.Nat.{◌+◌, ◌<◌}
+use mathlib.Core.Path.{◌≡◌, sym, subst}
+use Prim.Native.Nat.{ℕ, ◌+◌, ◌-◌, ◌/◌, ◌<◌}
 use native.Mathlib.Omega.{arith}
-use lib.ListN.{get_or}
+use lib.Bits.{bit_and, bit_or}
+use lib.ListN.{get_or, length, set, take, drop}
 use Rattle.mask.proofs.Masks.{is-length}
-use Rattle.binding.proofs.Rows.{row-entries}
-use Rattle.binding.proofs.Seen.{drain_turn, drain_end}
-use Rattle.binding.proofs.inner.System.drain.Goals.{In-loop-e}
+use Rattle.binding.proofs.Rows.{row-entries, part-at}
+use Rattle.binding.proofs.Seen.{Draining, drain_turn, drain_end}
+use Rattle.binding.proofs.inner.System.drain.Goals.{In-loop-column}
 use Rattle.binding.proofs.inner.System.drain.Goals as goal
 
--- entry e's column is a node
-in-nodes : (c : In-loop-e) → get_or c.args.self.matrix.col_idx.now c.loop-e.e 0 < c.args.self.local.region.len
-in-nodes c = (row-entries _ _ _ c.args.self.square c.args.r c.requires.0).inside c.loop-e.e (omega (arith, (row-entries _ _ _ c.args.self.square c.args.r c.requires.0).within))
+module _ (c : In-loop-column) where
+  abbrev from : ℕ
+  from = get_or c.args.self.matrix.row_ptr.now c.args.r 0
 
-pub bounds-self-e : goal.bounds-self-e
-bounds-self-e c = omega (arith, (row-entries _ _ _ c.args.self.square c.args.r c.requires.0).within)
+  abbrev to : ℕ
+  to = get_or c.args.self.matrix.row_ptr.now (c.args.r + 1) 0
+
+  abbrev e : ℕ
+  e = from + c.loop-column.column-index
+
+  abbrev column : ℕ
+  column = get_or (take (to - from) (drop from c.args.self.matrix.col_idx.now)) c.loop-column.column-index 0
+
+  here : column ≡ get_or c.args.self.matrix.col_idx.now e 0
+  here = part-at from to c.args.self.matrix.col_idx.now c.loop-column.column-index (omega arith)
+
+  -- entry e's column is a node
+  node : get_or c.args.self.matrix.col_idx.now e 0 < c.args.self.local.region.len
+  node = let row = row-entries _ _ _ c.args.self.square c.args.r c.requires.0 in row.inside e (omega (arith, row.within))
+
+  long : column / 64 < length c.args.seen.now
+  long = omega (arith, here, node, is-length _ _ c.requires.1)
+
+  turned : Draining c.args.self.local.region.len c.args.self.matrix.col_idx.now c.args.self.local.region.words.now c.args.seen.now to (from + (c.loop-column.column-index + 1))
+      (set c.loop-column.seen (column / 64) 0) (bit_or c.loop-column.extra (bit_and (get_or c.loop-column.seen (column / 64) 0) (get_or c.args.self.local.region.words.now (column / 64) 0)))
+  turned =
+      let l = c.loop-column in
+      let t = c.args.self in
+      let s : e + 1 ≡ from + (l.column-index + 1) = omega arith in
+      subst (λ (x : ℕ). Draining t.local.region.len t.matrix.col_idx.now t.local.region.words.now c.args.seen.now to (from + (l.column-index + 1)) (set l.seen (x / 64) 0) (bit_or l.extra (bit_and (get_or l.seen (x / 64) 0) (get_or t.local.region.words.now (x / 64) 0)))) (sym here)
+      (subst (λ (k : ℕ). Draining t.local.region.len t.matrix.col_idx.now t.local.region.words.now c.args.seen.now to k (set l.seen (get_or t.matrix.col_idx.now e 0 / 64) 0) (bit_or l.extra (bit_and (get_or l.seen (get_or t.matrix.col_idx.now e 0 / 64) 0) (get_or t.local.region.words.now (get_or t.matrix.col_idx.now e 0 / 64) 0)))) s
+      (drain_turn t.local.region.len t.matrix.col_idx.now t.local.region.words.now c.args.seen.now to t.local.region.accepted (row-entries _ _ _ t.square c.args.r c.requires.0).within e l.seen l.extra l.invariant (omega arith) node))
+
+pub slice_bounds-column-items-end : goal.slice_bounds-column-items-end
+slice_bounds-column-items-end c = (row-entries _ _ _ c.args.self.square c.args.r c.requires.0).within
 
 pub bounds-seen-w : goal.bounds-seen-w
-bounds-seen-w c = omega (arith, in-nodes (goal.at.bounds-seen-w c).In-loop-e, is-length _ _ c.requires.1)
+bounds-seen-w c = omega (arith, long (goal.at.bounds-seen-w c).In-loop-column)
 
 pub bounds-self-w : goal.bounds-self-w
-bounds-self-w c = omega (arith, in-nodes (goal.at.bounds-self-w c).In-loop-e, is-length _ _ c.args.self.local.region.accepted)
+bounds-self-w c = omega (arith, here (goal.at.bounds-self-w c).In-loop-column, node (goal.at.bounds-self-w c).In-loop-column, is-length _ _ c.args.self.local.region.accepted)
 
-pub bounds-seen-w-in-loop-e : goal.bounds-seen-w-in-loop-e
-bounds-seen-w-in-loop-e c = omega (arith, in-nodes (goal.at.bounds-seen-w-in-loop-e c).In-loop-e, is-length _ _ c.requires.1)
+pub bounds-seen-w-in-loop-column : goal.bounds-seen-w-in-loop-column
+bounds-seen-w-in-loop-column c = omega (arith, long (goal.at.bounds-seen-w-in-loop-column c).In-loop-column)
 
-pub loop-e-preserved : goal.loop-e-preserved
-loop-e-preserved c =
-    let l = c.loop-e in
-    drain_turn c.args.self.local.region.len c.args.self.matrix.col_idx.now c.args.self.local.region.words.now c.args.seen.now (get_or c.args.self.matrix.row_ptr.now (c.args.r + 1) 0) c.args.self.local.region.accepted (row-entries _ _ _ c.args.self.square c.args.r c.requires.0).within
-    l.e l.seen l.extra l.invariant c.loop-e-test.true (in-nodes (goal.at.loop-e-preserved c).In-loop-e)
+pub loop-column-preserved : goal.loop-column-preserved
+loop-column-preserved c = turned (goal.at.loop-column-preserved c).In-loop-column
 
 pub returns : goal.returns
 returns c =
-    let l = c.loop-e in
-    let whole = drain_end c.args.self.local.region.len c.args.self.matrix.col_idx.now c.args.self.local.region.words.now c.args.seen.now (get_or c.args.self.matrix.row_ptr.now (c.args.r + 1) 0) l.e l.seen l.extra l.invariant (omega (arith, l.auto.e-end (row-entries _ _ _ c.args.self.square c.args.r c.requires.0).up)) in record {
+    let l = c.loop-column in
+    let row = row-entries _ _ _ c.args.self.square c.args.r c.requires.0 in
+    let whole = drain_end c.args.self.local.region.len c.args.self.matrix.col_idx.now c.args.self.local.region.words.now c.args.seen.now (get_or c.args.self.matrix.row_ptr.now (c.args.r + 1) 0) (get_or c.args.self.matrix.row_ptr.now c.args.r 0 + l.column-index) l.seen l.extra l.invariant (omega (arith, row.up, row.within)) in record {
       value = whole.0;
       seen_after = whole.1;
     }

@@ -1,13 +1,13 @@
--- `binding::inner::System::follow_members` meets its contract. The invariant: the rows of the members below r pass, are counted, and are marked where they
+-- `binding::inner::System::follow_members` meets its contract. The invariant: the rows of the members before the one that comes next pass, are counted, and are marked where they
 -- have a pair. Assumes nothing.
-use Prim.Native.Nat.{◌-◌}
+use Rattle.mask.proofs.Nexts.{Over, coming}
 use Rattle.side.specs.Side.{side_holds}
 use Rattle.binding.proofs.Paired.{Marks}
 use Rattle.binding.proofs.Sources.{Settling}
 use Rattle.binding.proofs.inner.System.follow_members.Given as goal
 
 abbrev pub invariant-loop-r : goal.invariant-loop-r
-invariant-loop-r l = Settling l.self.local.region.len l.self.local.region.words.now l.self.local.rows.row_word_ptr.now l.self.local.rows.word_indices.now l.self.local.rows.masks.now l.self.matrix.row_ptr.now l.self.matrix.col_idx.now l.members l.pairs l.sources l.r × Marks l.self.local.region.len l.self.local.region.words.now (side_holds l.self.local.rows.row_word_ptr.now l.self.local.rows.word_indices.now l.self.local.rows.masks.now) l.paired l.r
-
-abbrev pub decreases-loop-r : goal.decreases-loop-r
-decreases-loop-r l = l.self.local.region.len - l.r
+invariant-loop-r l =
+    Over l.self.local.region.len l.self.local.region.words.now l.r-iterator
+    × Settling l.self.local.region.len l.self.local.region.words.now l.self.local.rows.row_word_ptr.now l.self.local.rows.word_indices.now l.self.local.rows.masks.now l.self.matrix.row_ptr.now l.self.matrix.col_idx.now l.members l.pairs l.sources (coming l.self.local.region.len l.self.local.region.words.now l.r-iterator)
+    × Marks l.self.local.region.len l.self.local.region.words.now (side_holds l.self.local.rows.row_word_ptr.now l.self.local.rows.word_indices.now l.self.local.rows.masks.now) l.paired (coming l.self.local.region.len l.self.local.region.words.now l.r-iterator)

@@ -6,4 +6,4 @@ use Rattle.claims.proofs.inner.Compared.check_pairs.Goals as goal
 
 pub check_filled-requires : goal.check_filled-requires
 check_filled-requires c =
-    zeros-empty c.args.self.topology.rows.nrows 16384 (c.words_for-need.result - 0) (omega (arith, c.words_for-need.ensures)) (omega (arith, c.words_for-need.ensures, c.args.self.square.rows.shape.few_rows))
+    zeros-empty c.args.self.rows.nrows 16384 (c.words_for-need.result - 0) (omega (arith, c.words_for-need.ensures)) (omega (arith, c.words_for-need.ensures, c.args.self.rows.accepted.shape.few_rows))

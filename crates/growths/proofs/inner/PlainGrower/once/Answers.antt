@@ -1,6 +1,17 @@
 -- `growths::inner::PlainGrower::once` meets its contract. Assumes nothing.
-use Rattle.growths.proofs.Growing.{plain-own}
+use Rattle.std.proofs.Common.{sym, ◌∙◌}
+use Rattle.base.proofs.Checks.{handed}
+use Rattle.growths.proofs.Growing.{taken, refused, plain-own}
 use Rattle.growths.proofs.inner.PlainGrower.once.Goals as goal
+
+pub returns-in_err-grow_undirected_region-clause-value : goal.returns-in_err-grow_undirected_region-clause-value
+returns-in_err-grow_undirected_region-clause-value c = handed _ _ c.from_residual.ensures.1 ∙ sym (refused _ _ _ (sym c.grow_undirected_region.ensures.value ∙ c.in_err-grow_undirected_region.was))
+
+pub returns-in_err-grow_undirected_region-clause-own : goal.returns-in_err-grow_undirected_region-clause-own
+returns-in_err-grow_undirected_region-clause-own c = plain-own _ _ _ _ _ _ _ _
+
+pub returns-clause-value : goal.returns-clause-value
+returns-clause-value c = sym (taken _ _ _ (sym c.grow_undirected_region.ensures.value ∙ c.in_ok-grow_undirected_region.was))
 
 pub returns-clause-own : goal.returns-clause-own
 returns-clause-own c = plain-own _ _ _ _ _ _ _ _

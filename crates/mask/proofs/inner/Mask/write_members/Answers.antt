@@ -8,19 +8,19 @@ use Rattle.mask.proofs.inner.Mask.write_members.Goals as goal
 pub loop-w-init : goal.loop-w-init
 loop-w-init c = written-start _ _ _ c.args.self.accepted
 
-pub loop-bits-init : goal.loop-bits-init
-loop-bits-init c = written-open _ _ _ _ _ _ c.loop-w-test.true c.loop-w.invariant
+pub loop-bit-init : goal.loop-bit-init
+loop-bit-init c = rw (c.into_iter-bit-iterator.ensures.into_iter_gives, c.of-bit-items.ensures) (written-open _ _ _ _ _ _ c.loop-w-test.true c.loop-w.invariant)
 
 pub bounds-out-n : goal.bounds-out-n
 bounds-out-n c =
-    omega (arith, written-room _ _ _ _ _ _ _ c.loop-bits.invariant c.loop-bits-test.true (omega arith), count-members c.args.self.len (in_mask c.args.self.words.now))
+    omega (arith, written-room _ _ _ _ _ _ _ c.loop-bit.invariant _ _ c.in-Some.ensures.steps, count-members c.args.self.len (in_mask c.args.self.words.now))
 
-pub loop-bits-preserved : goal.loop-bits-preserved
-loop-bits-preserved c =
-    written-turn _ _ _ _ _ _ _ c.loop-bits.invariant c.loop-bits-test.true (omega arith) (omega (arith, count-members c.args.self.len (in_mask c.args.self.words.now)))
+pub loop-bit-preserved : goal.loop-bit-preserved
+loop-bit-preserved c =
+    written-turn _ _ _ _ _ _ _ c.loop-bit.invariant _ _ c.in-Some.ensures.steps (omega (arith, count-members c.args.self.len (in_mask c.args.self.words.now)))
 
 pub loop-w-preserved : goal.loop-w-preserved
-loop-w-preserved c = written-done _ _ _ _ _ _ _ c.loop-bits.invariant c.loop-bits-test.false
+loop-w-preserved c = written-done _ _ _ _ _ _ _ c.loop-bit.invariant c.in-None.ensures.steps.0
 
 pub returns : goal.returns
 returns c = written-end _ _ _ _ _ _ c.loop-w-test.false c.loop-w.invariant

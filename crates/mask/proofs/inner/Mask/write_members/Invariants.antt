@@ -9,9 +9,6 @@ use Rattle.mask.proofs.inner.Mask.write_members.Given as goal
 abbrev pub invariant-loop-w : goal.invariant-loop-w
 invariant-loop-w l = Written (members_below l.self.len (in_mask l.self.words.now)) (ahead l.self.words.now l.w) l.fn.out l.out l.n
 
-abbrev pub invariant-loop-bits : goal.invariant-loop-bits
-invariant-loop-bits l =
-    Written (members_below l.self.len (in_mask l.self.words.now)) (map (λ (i : ℕ). 64 * l.w + i) (set_bits l.bits) ++ ahead l.self.words.now (l.w + 1)) l.fn.out l.out l.n
-
-abbrev pub decreases-loop-bits : goal.decreases-loop-bits
-decreases-loop-bits l = l.bits
+abbrev pub invariant-loop-bit : goal.invariant-loop-bit
+invariant-loop-bit l =
+    Written (members_below l.self.len (in_mask l.self.words.now)) (map (λ (i : ℕ). 64 * l.w + i) (set_bits l.bit-iterator.left) ++ ahead l.self.words.now (l.w + 1)) l.fn.out l.out l.n

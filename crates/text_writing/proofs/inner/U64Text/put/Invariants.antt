@@ -1,18 +1,18 @@
--- `text_writing::inner::U64Text::put` meets its contract. The invariant: the digits behind those of what is left are put. Assumes nothing.
+-- `text_writing::inner::U64Text::put` meets its contract. The invariant: the digits behind those that are left are put, and those are the digits of
+-- what is left, or none.
 use mathlib.Core.Path.{◌≡◌}
-use mathlib.Core.List.{List, ◌++◌}
+use mathlib.Core.Logic.{◌⊎◌}
+use mathlib.Core.List.{List, [], ◌++◌}
 use Prim.Native.Nat.{ℕ, ◌+◌}
 use lib.ListN.{length}
 use Rattle.base.specs.Lists.{placed}
 use Rattle.text_writing.specs.Text.{decimal}
 use Rattle.text_writing.proofs.inner.U64Text.put.Given as goal
 
-abbrev pub invariant-loop-left : goal.invariant-loop-left
-invariant-loop-left l =
+abbrev pub invariant-loop-place : goal.invariant-loop-place
+invariant-loop-place l =
     (l.out.bytes.ghost_name ≡ l.fn.out.bytes.ghost_name)
+    × (l.out.len ≡ l.fn.out.len)
     × (length l.out.bytes.now ≡ length l.fn.out.bytes.now)
-    × (l.place + 1 ≡ l.fn.out.len + length (decimal l.left))
-    × ((put : List ℕ) × (decimal l.self ≡ decimal l.left ++ put) × (l.out.bytes.now ≡ placed (l.place + 1) put l.fn.out.bytes.now))
-
-abbrev pub decreases-loop-left : goal.decreases-loop-left
-decreases-loop-left l = l.left
+    × ((rest : List ℕ) × (put : List ℕ) × ((rest ≡ decimal l.left) ⊎ (rest ≡ [])) × (l.place ≡ l.fn.out.len + length rest) × (decimal l.self ≡ rest ++ put)
+    × (l.out.bytes.now ≡ placed l.place put l.fn.out.bytes.now))
