@@ -8,3 +8,4 @@ pub mod Finishing
 pub mod Checking
 pub mod Held
 pub mod Table
+pub mod Own
