@@ -1,14 +1,9 @@
 -- What it is for one set of pairs to be the transpose of another; where both have as many pairs, it is enough that one is within the other. Assumes nothing.
-use mathlib.Core.Path.{◌≡◌, refl, sym, ap, ap₂, ◌∙◌, subst}
-use mathlib.Core.Bool.{Bool, true, false, not, ◌||◌, ◌&&◌}
-use Prim.Native.Nat.{ℕ, zero, suc, ◌+◌, ◌<◌}
+use mathlib.Core.Path.{◌≡◌, refl, sym, ◌∙◌, subst}
+use mathlib.Core.Bool.{Bool, true, false, not, ◌||◌}
+use Prim.Native.Nat.{ℕ, ◌<◌}
 use native.Mathlib.Omega.{arith}
-use native.Mathlib.Nat.{zero-add}
 use lib.Dec.{T}
-use Rattle.std.specs.List.{range_with_len}
-use Rattle.std.proofs.lemmas.List.FromFn.{get_or-range_with_len, length-range_with_len}
-use Rattle.base.specs.Lists.{every}
-use Rattle.base.proofs.Lists.{every-at}
 use Rattle.base.specs.Sets.{every_below, one_if, count_below}
 use Rattle.base.proofs.Bools.{bool-ext, T_true, T_of}
 use Rattle.base.proofs.Sets.{every-i, every-e, sum-swap, sum-tight, one-if-mono, count-mono}
@@ -82,20 +77,3 @@ module _ (nrows ncols : ℕ) (R C : ℕ → ℕ → Bool) where
       back : T (every_below nrows (λ r. within ncols (R r) (flip C r))) → T (turned nrows ncols R C)
       back t =
           T_of _ (pair-turned (turned_round e (λ r c hr hc. within-e ncols (R r) (flip C r) (every-e nrows (λ r. within ncols (R r) (flip C r)) t r hr) c hc)))
-
--- ---- a test of every number of a range
-
-every-from : (f : ℕ → Bool) (a n : ℕ) → every f (range_with_len a n) ≡ true → (i : ℕ) → i < n → f (a + i) ≡ true
-every-from f a n e i h =
-    ap f (sym (get_or-range_with_len a n i 0 h)) ∙ every-at f 0 (range_with_len a n) i e (omega (arith, h, length-range_with_len a n))
-
-from-every : (f : ℕ → Bool) (a n : ℕ) → ((i : ℕ) → i < n → f (a + i) ≡ true) → every f (range_with_len a n) ≡ true
-from-every f a zero h = refl
-from-every f a (suc n) h =
-    ap₂ ◌&&◌ (ap f (omega arith) ∙ h 0 (omega arith)) (from-every f (a + 1) n (λ i l. ap f (omega arith) ∙ h (suc i) (omega arith)))
-
-pub every-range : (f : ℕ → Bool) (n : ℕ) → every f (range_with_len 0 n) ≡ every_below n f
-every-range f n =
-    bool-ext (every f (range_with_len 0 n)) (every_below n f)
-    (λ t. every-i n f (λ i l. T_of (f i) (ap f (sym (zero-add i)) ∙ every-from f 0 n (T_true _ t) i l)))
-    (λ t. T_of _ (from-every f 0 n (λ i l. ap f (zero-add i) ∙ T_true (f i) (every-e n f t i l))))

@@ -1,17 +1,19 @@
 -- The columns of a row, word by word and bit by bit: whether all of them are in a set. Assumes nothing.
-use mathlib.Core.Path.{◌≡◌, refl, sym, ap, ◌∙◌, subst}
-use mathlib.Core.Bool.{Bool, true, false, ◌&&◌}
-use mathlib.Core.List.{List, [], ◌∷◌}
-use Prim.Native.Nat.{ℕ, ◌+◌, ◌*◌, ◌/◌, ◌%◌, ◌≤◌, ◌<◌}
+use mathlib.Core.Path.{◌≡◌, sym, ap, ◌∙◌, subst}
+use mathlib.Core.Bool.{Bool, true}
+use mathlib.Core.List.{List}
+use Prim.Native.Nat.{ℕ, ◌+◌, ◌-◌, ◌*◌, ◌/◌, ◌%◌, ◌≤◌, ◌<◌}
 use native.Mathlib.Omega.{arith}
-use borrow.Author.Tests.{lt-ltb, ltb-true}
-use lib.Dec.{T, ltb}
+use lib.Dec.{T}
 use lib.ListN.{length, get_or}
 use Rattle.base.specs.Lists.{every}
 use Rattle.base.specs.Sets.{members_from}
-use Rattle.base.proofs.Bools.{T_true, T_false, T_of, and_left, and_right, both_ways}
+use Rattle.base.proofs.Bools.{T_true, T_of, bool-ext}
+use Rattle.std.specs.List.{range_with_len}
+use Rattle.base.proofs.Passes.{every-from, from-every}
 use Rattle.base.proofs.Lists.{every-at}
-use Rattle.base.proofs.Sets.{every-members, members-find}
+use Rattle.std.proofs.lemmas.Grind.{get_or_default_zero}
+use Rattle.base.proofs.Sets.{every-members, members-find, members-at}
 use Rattle.word.specs.Bits.{bit_at, set_bits}
 use Rattle.word.proofs.Words.{bit_word}
 use Rattle.side.specs.Check.{is_word_inside}
@@ -25,42 +27,12 @@ every-member f p b n e i l u t =
     let k : (k : ℕ) × (k < length (members_from p b n)) × (get_or (members_from p b n) k 0 ≡ i) = members-find p b n i l u t in
     ap f (sym k.2) ∙ every-at f 0 (members_from p b n) k.0 e k.1
 
--- ---- a walk over the set bits of word w, lowest first
-
-module _ (ncols w : ℕ) (q : ℕ → Bool) where
-  -- what is known of the bits that are left of the mask m
-  pub record Walk (m : ℕ) (left : List ℕ) : Type 0 where
-    pub same : every (λ b. q (64 * w + b)) (set_bits m) ≡ every (λ b. q (64 * w + b)) left
-    pub inside : every (λ b. ltb (64 * w + b) ncols) left ≡ true
-
-  pub walk_start : (m : ℕ) → is_word_inside ncols w m ≡ true → Walk m (set_bits m)
-  walk_start m e = record { same = refl; inside = every-members (λ b. ltb (64 * w + b) ncols) (bit_at m) 0 64 (λ b l u t. in_cols b (omega arith) t) }
-    where
-      in_cols : (b : ℕ) → b < 64 → T (bit_at m b) → ltb (64 * w + b) ncols ≡ true
-      in_cols b l t = lt-ltb (64 * w + b) ncols (bit_in ncols w m e b l t)
-
-  module _ (m : ℕ) (left : List ℕ) (k : Walk m left) where
-    -- none is left
-    pub walk_end : left ≡ [] → every (λ b. q (64 * w + b)) (set_bits m) ≡ true
-    walk_end z = k.same ∙ ap (every (λ b. q (64 * w + b))) z
-
-    module _ (b : ℕ) (rest : List ℕ) (e : left ≡ b ∷ rest) where
-      first : (f : ℕ → Bool) → every f left ≡ (f b && every f rest)
-      first f = ap (every f) e
-
-      -- the next is a column
-      pub walk_col : 64 * w + b < ncols
-      walk_col = ltb-true _ _ (and_left _ (every (λ b. ltb (64 * w + b) ncols) rest) (sym (first (λ b. ltb (64 * w + b) ncols)) ∙ k.inside))
-
-      -- and is in q, or is not
-      pub walk_next : q (64 * w + b) ≡ true → Walk m rest
-      walk_next t = record {
-        same = k.same ∙ first (λ b. q (64 * w + b)) ∙ ap (λ (x : Bool). x && every (λ b. q (64 * w + b)) rest) t;
-        inside = and_right (ltb (64 * w + b) ncols) _ (sym (first (λ b. ltb (64 * w + b) ncols)) ∙ k.inside);
-      }
-
-      pub walk_stop : q (64 * w + b) ≡ false → every (λ b. q (64 * w + b)) (set_bits m) ≡ false
-      walk_stop t = k.same ∙ first (λ b. q (64 * w + b)) ∙ ap (λ (x : Bool). x && every (λ b. q (64 * w + b)) rest) t
+-- a set bit of a word that is inside is a column
+pub bit_col : (ncols w m k b : ℕ) → is_word_inside ncols w m ≡ true → k < length (set_bits m) → b ≡ get_or (set_bits m) k b → 64 * w + b < ncols
+bit_col ncols w m k b e h s =
+    let at = members-at (bit_at m) 0 64 k h in
+    let is : b ≡ get_or (set_bits m) k 0 = s ∙ get_or_default_zero (set_bits m) k b h in
+    bit_in ncols w m e b (omega (arith, is, at.1)) (subst (λ (x : ℕ). T (bit_at m x)) (sym is) at.2)
 
 -- ---- the words of a row
 
@@ -87,11 +59,22 @@ module _ (ncols : ℕ) (p q : ℕ → Bool) (idx masks : List ℕ) (from to : �
           let m : T (bit_at (get_or masks f.0 0) (c % 64)) = subst (λ (b : Bool). T b) (sym (bit f.0 (c % 64) f.1 f.2 (omega arith) ∙ ap p s)) t in
           T_of (q c) (ap q (sym s) ∙ every-member (λ b. q (64 * get_or idx f.0 0 + b)) (bit_at (get_or masks f.0 0)) 0 64 (all f.0 f.2 f.1) (c % 64) (omega arith) (omega arith) m)
 
-  -- not all of one word
-  pub word-missing : ((c : ℕ) → T (p c) → c < ncols) → (k : ℕ) → from ≤ k → k < to → word_in q idx masks k ≡ false → within ncols p q ≡ false
-  word-missing small k h u e =
-      T_false _ (λ t. both_ways (word_in q idx masks k)
-      (every-members (λ b. q (64 * get_or idx k 0 + b)) (bit_at (get_or masks k 0)) 0 64 (λ b l v m. here t b (subst (λ (x : Bool). T x) (bit k b h u (omega arith)) m))) e)
+  -- where all columns are, those of one word are
+  word-there : ((c : ℕ) → T (p c) → c < ncols) → T (within ncols p q) → (k : ℕ) → from ≤ k → k < to → word_in q idx masks k ≡ true
+  word-there small t k h u =
+      every-members (λ b. q (64 * get_or idx k 0 + b)) (bit_at (get_or masks k 0)) 0 64 (λ b l v m. here b (subst (λ (x : Bool). T x) (bit k b h u (omega arith)) m))
     where
-      here : T (within ncols p q) → (b : ℕ) → T (p (64 * get_or idx k 0 + b)) → q (64 * get_or idx k 0 + b) ≡ true
-      here t b m = T_true _ (within-e ncols p q t (64 * get_or idx k 0 + b) (small (64 * get_or idx k 0 + b) m) m)
+      here : (b : ℕ) → T (p (64 * get_or idx k 0 + b)) → q (64 * get_or idx k 0 + b) ≡ true
+      here b m = T_true _ (within-e ncols p q t (64 * get_or idx k 0 + b) (small (64 * get_or idx k 0 + b) m) m)
+
+  -- so the test of every word answers whether all are
+  pub words-range : ((c : ℕ) → T (p c) → c < ncols) → every (word_in q idx masks) (range_with_len from (to - from)) ≡ within ncols p q
+  words-range small =
+      bool-ext (every (word_in q idx masks) (range_with_len from (to - from))) (within ncols p q)
+      (λ t. T_of _ (words-within (λ k h l. all (T_true _ t) k h l)))
+      (λ t. T_of _ (from-every (word_in q idx masks) from (to - from) (λ i l. word-there small t (from + i) (omega arith) (omega arith))))
+    where
+      all : every (word_in q idx masks) (range_with_len from (to - from)) ≡ true → (k : ℕ) → k < to → from ≤ k → word_in q idx masks k ≡ true
+      all e k h l =
+          let s : from + (k - from) ≡ k = omega arith in
+          ap (word_in q idx masks) (sym s) ∙ every-from (word_in q idx masks) from (to - from) e (k - from) (omega arith)

@@ -1,5 +1,6 @@
-// The work, for callers that have checked both sides: no part of the API.
-ghost use Rattle.std.specs.Prelude.{◌≡◌, true, ◌+◌, ◌*◌, ◌<◌, length};
+// Whether the columns of a topology are the transpose of its rows, for callers that have checked both: no part of the API. Each pair of the rows is
+// looked up in its column; that both sides hold as many says the rest.
+ghost use Rattle.std.specs.Prelude.{◌≡◌, true, ◌+◌, ◌*◌, ◌<◌, length, get_or};
 ghost use Rattle.base.specs.Checks.{side_limit};
 ghost use Rattle.base.specs.Lists.{every};
 ghost use Rattle.word.specs.Bits.{set_bits};
@@ -18,7 +19,7 @@ fn holds(column: RowWords, row: usize) -> bool
     ensures { result ≡ held column.entry row }
 {
     if column.masks.len() > 0 && column.word_indices[0] == (row / AbtmTopologyWord::BITS) as u32 {
-        return column.masks[0] & (1u64 << (row % AbtmTopologyWord::BITS)) != 0;
+        return word::inner::bit(column.masks[0], row % AbtmTopologyWord::BITS);
     }
     column.contains(row as u64)
 }
@@ -32,33 +33,36 @@ pub struct Sides<'a> {
 }
 
 impl Sides<'_> {
-    // Whether every column of one word of a row holds the row: a loop, since that a column is inside is known of the bits that are left.
-    fn word_turned(self, row: usize, word: u32, mask: u64) -> bool
-        requires { (row < self.rows.nrows) × (is_word_inside self.rows.ncols word mask ≡ true) }
-        ensures { result ≡ every (λ b. flip (pairs self.entry.columns) row (64 * word + b)) (set_bits mask) }
+    // Whether every column of one word of a row holds the row.
+    fn word_turned(self, row: usize, word: AbtmTopologyWord) -> bool
+        requires { (row < self.rows.nrows) × (is_word_inside self.rows.ncols word.word_index word.mask ≡ true) }
+        ensures { result ≡ every (λ b. flip (pairs self.entry.columns) row (64 * word.word_index + b)) (set_bits word.mask) }
     {
-        let first = AbtmTopologyWord::BITS * word as usize;
-        for bit in Bits::of(mask) {
-            let col = first + bit as usize;
-            prove!(col < self.rows.ncols);
-            if !holds(self.columns.row(col), row) {
-                return false;
-            }
-        }
-        true
+        let first = word.base_col();
+        Bits::of(word.mask).all(
+            |bit|
+                requires { (first + bit < self.columns.nrows) × (row < side_limit) }
+                ensures { result ≡ pairs self.entry.columns (first + bit) row }
+            { holds(self.columns.row(first + bit as usize), row) },
+        )
     }
 
-    // Whether every column of a row holds the row. With `all` this was tried, and the proof was left open at what the closure asks of each place k.
+    // Whether every column of a row holds the row. Its words are read by their positions in two lists, as `side::inner::Side` says.
     fn row_turned(self, row: usize) -> bool
         requires { row < self.rows.nrows }
         ensures { result ≡ within self.entry.rows.ncols (pairs self.entry.rows row) (flip (pairs self.entry.columns) row) }
     {
-        for k in self.rows.row_word_ptr[row] as usize..self.rows.row_word_ptr[row + 1] as usize {
-            if !self.word_turned(row, self.rows.word_indices[k], self.rows.masks[k]) {
-                return false;
-            }
-        }
-        true
+        let from = self.rows.row_word_ptr[row] as usize;
+        let to = self.rows.row_word_ptr[row + 1] as usize;
+        (from..to).all(
+            |k|
+                requires { (row < self.rows.nrows) × (k < length self.rows.masks.now) }
+                ensures { result ≡ every (λ b. flip (pairs self.entry.columns) row (64 * get_or self.entry.rows.word_indices.now k 0 + b)) (set_bits (get_or self.entry.rows.masks.now k 0)) }
+            {
+                let word = AbtmTopologyWord::new(self.rows.word_indices[k], self.rows.masks[k]);
+                self.word_turned(row, word)
+            },
+        )
     }
 
     // Both sides hold equally many pairs, so it is enough that the columns hold every pair of the rows.

@@ -62,6 +62,10 @@ handed r q h = let p = err_from_is_err_and r h in p.1 ∙ ap Err p.2
 pub group-refuses : (g r next : Check) (q : Refusal) → g ≡ Err q → r ≡ Err q → r ≡ (g then next)
 group-refuses g r next q e h = h ∙ group-stop g next q e
 
+-- a call of `must_be` whose refusal a `?` hands on
+pub length-refuses : (x e a : ℕ) (g r next : Check) (q : Refusal) → g ≡ must_be x a → x ≡ e → g ≡ Err q → IsErrAnd r (λ y. y ≡ q) → r ≡ (must_be e a then next)
+length-refuses x e a g r next q h s k t = group-refuses (must_be e a) r next q (sym (h ∙ ap (λ (n : ℕ). must_be n a) s) ∙ k) (handed r q t)
+
 -- an accepted group leaves the next to decide
 pub then_next : (g next : Check) → g ≡ Ok tt → (g then next) ≡ next
 then_next g next e = sym (group-pass g next next e refl)

@@ -5,3 +5,4 @@ pub mod Lists
 pub mod Sets
 pub mod Joins
 pub mod Placed
+pub mod Passes

@@ -9,7 +9,7 @@ use native.Mathlib.Numerals.{add-one}
 use native.Mathlib.Omega.{arith}
 use borrow.Author.Tests.{eq-eqb, eqb-true}
 use lib.Dec.{T, eqb, eqb→eq}
-use lib.ListN.{length, get_or, set, take, drop, replicate, get_or-append, length-append, length-take, length-drop, length-replicate, take-append-drop, replicate-append-replicate}
+use lib.ListN.{length, get_or, set, take, drop, replicate, get_or-append, length-append, length-take, length-drop, length-replicate, take-append-drop}
 use lib.Seq.{slice, get_or-append-add, drop-cons, take-suc, take-take, length-take-le, set_at, append_snoc, take_all, drop-length, get_or-drop, get_or-take, length-slice, slice_empty, drop-append-le, drop-append-add, drop-drop, ext_get_or, take-append_seam, take-nil, take_at}
 use Rattle.base.specs.Lists.{every, pairwise, is_in, same_list, list_from, written, over, placed, over_with_zeros, zeroed}
 use Rattle.base.proofs.Bools.{bool-ext, and_left, and_right, or_l, or_r, or-e, or-false, T_true, T_false, T_of, both_ways, lt-or-le}
@@ -245,9 +245,6 @@ module _ {A : Type 0} (X o : List A) where
   put_whole out i h k e =
       put-end out i (k ∙ sym h) e ∙ ap (λ (n : ℕ). X ++ drop n o) h ∙ ap (λ (l : List A). X ++ l) (drop-length o) ∙ append-nil X
 
-  pub put-length : (i : ℕ) → i ≤ length X → i ≤ length o → length (written i X o) ≡ length o
-  put-length i h k = simp (length-append, length-take, length-drop) (omega arith)
-
 -- ---- a lent list of which a part was written: `&mut lent[..need]`
 
 module _ {A : Type 0} (part answer lent : List A) (need : ℕ) (e : part ≡ answer) (l : need ≡ length answer) where
@@ -260,31 +257,11 @@ module _ {A : Type 0} (part answer lent : List A) (need : ℕ) (e : part ≡ ans
   pub part-take : take need (part ++ drop need lent) ≡ answer
   part-take = ap (λ (k : ℕ). take k (part ++ drop need lent)) (l ∙ ap length (sym e)) ∙ take-append_seam part (drop need lent) ∙ e
 
-  pub part-needed : need ≡ length (take need (part ++ drop need lent))
-  part-needed = l ∙ ap length (sym part-take)
-
-  pub part-long : need ≤ length lent → length (part ++ drop need lent) ≡ length lent
-  part-long h = omega (arith, length-append part (drop need lent), length-drop need lent, ap length e)
-
 -- ---- a loop that writes zeros from lo on
 
 module _ (lo : ℕ) (l : List ℕ) where
-  pub zero-none : zeroed lo lo l ≡ l
-  zero-none =
-      let e : lo - lo ≡ 0 = omega arith in
-      ap (λ (n : ℕ). (take lo l ++ replicate n 0) ++ drop lo l) e ∙ ap (λ (x : List ℕ). x ++ drop lo l) (append-nil (take lo l)) ∙ take-append-drop lo l
-
   pub zero-length : (i : ℕ) → lo ≤ i → i ≤ length l → length (zeroed lo i l) ≡ length l
   zero-length i h k = simp (length-append, length-take, length-replicate, length-drop) (omega arith)
-
-  pub zero-next : (i : ℕ) → lo ≤ i → i < length l → set (zeroed lo i l) i 0 ≡ zeroed lo (i + 1) l
-  zero-next i h k =
-      let n : i + 1 - lo ≡ (i - lo) + 1 = omega arith in
-      ap (λ (x : List ℕ). set ((take lo l ++ replicate (i - lo) 0) ++ x) i 0) (drop-cons l i 0 k)
-      ∙ set_at (take lo l ++ replicate (i - lo) 0) (get_or l i 0) (drop (suc i) l) 0 i (length-append (take lo l) (replicate (i - lo) 0) ∙ omega (arith, length-take-le lo l (omega arith), length-replicate {A = ℕ} (i - lo) 0))
-      ∙ sym (append_snoc (take lo l ++ replicate (i - lo) 0) 0 (drop (suc i) l))
-      ∙ ap (λ (x : List ℕ). x ++ drop (suc i) l) (append_assoc (take lo l) (replicate (i - lo) 0) (0 ∷ []) ∙ ap (λ (x : List ℕ). take lo l ++ x) (replicate-append-replicate {A = ℕ} (i - lo) 1 0))
-      ∙ ap₂ (λ (a b : ℕ). (take lo l ++ replicate a 0) ++ drop b l) (sym n) (sym (add-one i))
 
 -- an answer's own part of the list that it was written over, and of one with zeros past it
 pub over-own : {A : Type 0} (X l : List A) (m : ℕ) → length X ≡ m → take m (over X l) ≡ X

@@ -169,12 +169,6 @@ module _ (p : ℕ → Bool) (from to : ℕ) where
   pub every-from : ((i : ℕ) → from ≤ i → i < to → T (p i)) → every_below (to - from) (λ j. p (from + j)) ≡ true
   every-from all = T_true (every_below (to - from) (λ j. p (from + j))) (every-i (to - from) (λ j. p (from + j)) (λ j l. all (from + j) (omega arith) (omega arith)))
 
-  pub not-every : (k : ℕ) → from ≤ k → k < to → (T (p k) → ⊥) → every_below (to - from) (λ j. p (from + j)) ≡ false
-  not-every k h l n =
-      let s : from + (k - from) ≡ k = omega arith in
-      T_false (every_below (to - from) (λ j. p (from + j)))
-      (λ t. n (subst (λ (x : ℕ). T (p x)) s (every-e (to - from) (λ j. p (from + j)) t (k - from) (omega arith))))
-
 -- ---- sums
 
 pub sum-zero : (f : ℕ → ℕ) → sum_below 0 f ≡ 0

@@ -1,5 +1,5 @@
--- The chain of checks. A call's checks are one `Check`, accepted or the first refusal of its conditions in document 01's order; it decides
--- the call's own answer (`answer`) and each list the call was lent (`leaves`).
+-- The chain of checks. A call's checks are one `Check`, accepted or the first refusal of its conditions in the order of docs/PROMISES.md; it
+-- decides the call's own answer (`answer`) and each list the call was lent (`leaves`).
 use Rattle.std.specs.Prelude.{Bool, true, false, ℕ, zero, suc, eqb, Result, Ok, Err}
 use Rattle.base.specs.declared.Refusal.{Refusal}
 use Rattle.base.specs.declared.Refusal.TheVariants.{OverLimit, RowPtrLength, EntryLengths, RowPtrStart, RowPtrEnd, RowPtrFalls, ColumnOutside, NotFinite, BadTopology, NotSquare, WrongLength, BitPastLength, OutOfRange, NoBlock, EmptyBlock, RepeatedBlock, UnknownKind, TotalNotSides, NoRanks, OwnerOutOfRange, OwnersDiffer, SidesDiffer, PairWithoutEntry, EntryWithoutPair, ListTooShort, BadPointers, MalformedJob}
@@ -15,7 +15,7 @@ entry_limit = 16777216
 abbrev pub region_limit : ℕ
 region_limit = 65536
 
--- ---- a refusal's number in document 01's table, and its two figures, which are 0 but for 11
+-- ---- a refusal's number in the table of include/hybit_matrix.h, and its two figures, which are 0 but for 11
 
 abbrev pub refusal_number : Refusal → ℕ
 refusal_number OverLimit = 1

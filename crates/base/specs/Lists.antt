@@ -1,7 +1,6 @@
 -- Lists: tests of their elements, membership, lists made by a rule, and a list written over the front of a lent one.
 use Rattle.std.specs.Prelude.{Bool, true, false, ◌&&◌, ◌||◌, List, [], ◌∷◌, ◌++◌, ℕ, zero, suc, ◌+◌, ◌-◌, leb, ltb, eqb, length, take, drop, replicate}
 use Rattle.std.specs.List.{list_all}
-use Rattle.std.specs.List.{list_all}
 
 -- every element of the list passes the test
 abbrev pub every : {A : Type 0} → (A → Bool) → List A → Bool

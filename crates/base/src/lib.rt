@@ -2,9 +2,9 @@
 // promises are made of: the chain of checks, sets of numbers, and lists written over the front of a lent list.
 #![tactic(auto)]
 
-ghost use Rattle.std.specs.Prelude.{◌≡◌, ℕ};
+ghost use Rattle.std.specs.Prelude.{◌≡◌, IfOk, ℕ};
 ghost use Rattle.base.specs.Lists.{below};
-ghost use Rattle.base.specs.Checks.{refusal_number, refusal_expected, refusal_actual};
+ghost use Rattle.base.specs.Checks.{refusal_number, refusal_expected, refusal_actual, must_be};
 
 pub mod scan;
 
@@ -16,8 +16,8 @@ pub const ENTRY_LIMIT: usize = 16777216;
 
 pub const REGION_LIMIT: usize = 65536;
 
-// Why a call was refused, a case for each number of document 01's table, in its order. It is handed to C as its number and figures, and no program
-// prints it otherwise: it needs no `Debug` and no `Display`.
+// Why a call was refused, a case for each number of the table in include/hybit_matrix.h, in its order. It is handed to C as its number and figures,
+// and no program prints it otherwise: it needs no `Debug` and no `Display`.
 #[derive(Clone, Copy, PartialEq, Eq)]
 pub enum Refusal {
     OverLimit,
@@ -49,7 +49,7 @@ pub enum Refusal {
     MalformedJob,
 }
 
-// Its number in document 01.
+// Its number in that table.
 impl From<Refusal> for u32 {
     ghost from_gives = { λ r n. n ≡ refusal_number r };
 
@@ -103,7 +103,7 @@ impl Refusal {
         u32::from(self)
     }
 
-    // Its first figure: the length that was expected, for 11, else 0.
+    // Its first figure: the length that was expected, for `WrongLength`, else 0.
     pub fn expected(self) -> u64
         ensures { result ≡ refusal_expected self }
     {
@@ -113,7 +113,7 @@ impl Refusal {
         }
     }
 
-    // Its second figure: the length that was met, for 11, else 0.
+    // Its second figure: the length that was met, for `WrongLength`, else 0.
     pub fn actual(self) -> u64
         ensures { result ≡ refusal_actual self }
     {
@@ -122,6 +122,18 @@ impl Refusal {
             _ => 0,
         }
     }
+}
+
+// A length that must be the expected one.
+#[tactic(auto, using(crate::proofs::Checks::checks), unfolding(crate::specs::Checks::must_be))]
+pub fn must_be(expected: usize, actual: usize) -> Result<(), Refusal>
+    ensures value { result ≡ must_be expected actual }
+    ensures accepted { IfOk result (λ t. actual ≡ expected) }
+{
+    if actual != expected {
+        return Err(Refusal::wrong_length(expected, actual));
+    }
+    Ok(())
 }
 
 // A number of a lent list, of 32 or 64 bits, as it is compared with a bound. `text_reading::Width` and `records::Element` make numbers, and compare

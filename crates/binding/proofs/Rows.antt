@@ -8,19 +8,20 @@ use mathlib.Core.List.{List}
 use Prim.Native.Nat.{ℕ, ◌+◌, ◌-◌, ◌≤◌, ◌<◌}
 use native.Mathlib.Omega.{arith}
 use lib.Dec.{T, T_not}
-use lib.ListN.{get_or, take, drop}
-use lib.Seq.{slice, get_or-take, get_or-drop}
+use lib.ListN.{length, get_or, drop, length-drop}
+use lib.Seq.{slice, length-take-le}
 use Rattle.base.specs.Checks.{side_limit, checks_below}
 use Rattle.base.specs.Lists.{is_in}
 use Rattle.base.specs.Sets.{any_below, count_below}
 use Rattle.base.specs.declared.Refusal.{Refusal}
 use Rattle.base.proofs.Bools.{and_l, and_r}
 use Rattle.base.proofs.Checks.{pass, stop, last-pass, last-stop, checks-none, checks-next, checks-all, checks-stop}
+use Rattle.base.proofs.Lists.{part_slice, get_or-slice}
 use Rattle.base.proofs.Sets.{any-cong, any_none, count-member, get_or-count}
 use Rattle.mask.specs.Mask.{in_mask, mask_words, IsMask}
 use Rattle.mask.proofs.Masks.{mask-holds, is-of}
 use Rattle.mask.proofs.Nexts.{Next}
-use Rattle.csr32.specs.Matrix.{stored, IsMatrix}
+use Rattle.csr32.specs.Matrix.{row_of, stored, IsMatrix}
 use Rattle.csr32.proofs.Matrix.{ptr_le}
 use Rattle.pattern.specs.Pattern.{member_at}
 use Rattle.pattern.proofs.Walks.{count-first, count_turn}
@@ -31,9 +32,16 @@ use Rattle.binding.specs.Steps.{Entries}
 pub row-entries : (n : ℕ) (ptr cols : List ℕ) → IsMatrix n n ptr cols → (r : ℕ) → r < n → Entries n cols (get_or ptr r 0) (get_or ptr (r + 1) 0)
 row-entries n ptr cols m r h = record { few = m.few_entries; up = m.rises r h; within = ptr_le n n ptr cols m (r + 1) (omega arith); inside = m.inside }
 
--- an entry of a part of the list
-pub part-at : (from to : ℕ) (cols : List ℕ) (i : ℕ) → i < to - from → get_or (take (to - from) (drop from cols)) i 0 ≡ get_or cols (from + i) 0
-part-at from to cols i h = get_or-take (to - from) (drop from cols) i 0 h ∙ get_or-drop from cols i 0
+-- its columns, by its entries
+module _ (n : ℕ) (ptr cols : List ℕ) (m : IsMatrix n n ptr cols) (r : ℕ) (h : r < n) where
+  pub row-long : length (row_of ptr cols r) ≡ get_or ptr (r + 1) 0 - get_or ptr r 0
+  row-long =
+      let row = row-entries n ptr cols m r h in
+      sym (ap length (part_slice (get_or ptr r 0) (get_or ptr (r + 1) 0) cols))
+      ∙ length-take-le _ (drop (get_or ptr r 0) cols) (omega (arith, row.up, row.within, length-drop (get_or ptr r 0) cols))
+
+  pub row_column : (i : ℕ) → i < length (row_of ptr cols r) → get_or (row_of ptr cols r) i 0 ≡ get_or cols (get_or ptr r 0 + i) 0
+  row_column i l = get_or-slice (get_or ptr r 0) (get_or ptr (r + 1) 0) cols i (omega (arith, row-long))
 
 -- ---- a row's mask: empty, then filled by the entries of row r, then without the row's pairs
 

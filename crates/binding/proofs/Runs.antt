@@ -6,8 +6,8 @@ use Rattle.std.specs.Prelude.{Some}
 use Rattle.std.proofs.lemmas.Option.{same_Some}
 use mathlib.Core.Bool.{Bool, true, false, not, cond, ◌&&◌, ◌||◌}
 use mathlib.Core.List.{List}
-use Prim.Native.Nat.{ℕ, zero, suc, ◌+◌, ◌-◌, ◌*◌, ◌/◌, ◌%◌, ◌^◌, ◌≤◌, ◌<◌}
-use native.Mathlib.Nat.{mod-lt, zero-lt-suc, add-zero, zero-add}
+use Prim.Native.Nat.{ℕ, ◌+◌, ◌-◌, ◌*◌, ◌/◌, ◌%◌, ◌^◌, ◌≤◌, ◌<◌}
+use native.Mathlib.Nat.{add-zero, zero-add}
 use native.Mathlib.Omega.{arith}
 use borrow.Author.Tests.{eq-eqb, ne_eqb}
 use lib.Bits.{bit_and, bit_or, bit_xor}
@@ -36,16 +36,6 @@ use Rattle.binding.proofs.Sources.{counted, count-start, count_next, count-more}
 
 -- ---- bits counted without a branch
 
--- a bit, moved to the lowest place
-pub bit-down : (m k : ℕ) → m / 2 ^ k % 2 ≡ one_if (bit_at m k)
-unfolding bit_at
-bit-down m k = digit (m / 2 ^ k % 2) (mod-lt (m / 2 ^ k) (zero-lt-suc 1))
-  where
-    digit : (d : ℕ) → d < 2 → d ≡ one_if (eqb d 1)
-    digit zero h = refl
-    digit (suc zero) h = refl
-    digit (suc (suc d)) h = absurd (omega arith)
-
 -- two sets that differ at b alone
 count_at : (n : ℕ) (p q : ℕ → Bool) (b x : ℕ) → b < n → ((i : ℕ) → (i ≡ b → ⊥) → q i ≡ p i) → one_if (q b) ≡ one_if (p b) + x → count_below n p + x ≡ count_below n q
 count_at n p q b x h same own =
@@ -62,9 +52,9 @@ count_at n p q b x h same own =
 
 -- bit b joins the bits: where it is inside and new, one more of them is inside
 pub pairs_next : (inside bits b pairs : ℕ) → bits < 2 ^ 64 → b < 64 → pairs ≡ count_below 64 (bit_at (bit_and bits inside))
-    → pairs + bit_and inside (2 ^ 64 - 1 - bits) / 2 ^ b % 2 ≡ count_below 64 (bit_at (bit_and (bit_or bits ((1 * 2 ^ b) % 2 ^ 64)) inside))
+    → pairs + one_if (bit_at (bit_and inside (2 ^ 64 - 1 - bits)) b) ≡ count_below 64 (bit_at (bit_and (bit_or bits ((1 * 2 ^ b) % 2 ^ 64)) inside))
 pairs_next inside bits b pairs f h e =
-    ap₂ ◌+◌ e (bit-down (bit_and inside (2 ^ 64 - 1 - bits)) b ∙ ap one_if (bit-and inside (2 ^ 64 - 1 - bits) b ∙ ap (λ (t : Bool). bit_at inside b && t) (bit_not 64 bits b f h)))
+    ap₂ ◌+◌ e (ap one_if (bit-and inside (2 ^ 64 - 1 - bits) b ∙ ap (λ (t : Bool). bit_at inside b && t) (bit_not 64 bits b f h)))
     ∙ count_at 64 (bit_at (bit_and bits inside)) (bit_at (bit_and next inside)) b (one_if (bit_at inside b && not (bit_at bits b))) h same own
   where
     next : ℕ
@@ -123,9 +113,9 @@ module _ (cols : List ℕ) (from to word inside : ℕ) where
     pub sources-few : sources ≤ e
     sources-few = omega (arith, inv.sources, count-le (e - from) (λ j. bit_at inside (get_or cols (from + j) 0 % 64)))
 
-    pub run-turn : to ≤ length cols → e < to → c / 64 ≡ word
-        → RunOf cols from to word inside (up_to (bit_or bits ((1 * 2 ^ (c % 64)) % 2 ^ 64)) (e + 1) (pairs + bit_and inside (2 ^ 64 - 1 - bits) / 2 ^ (c % 64) % 2) (sources + inside / 2 ^ (c % 64) % 2))
-    run-turn hc l d =
+    pub run-turn : to ≤ length cols → e < to → c / 64 ≡ word → (x y : ℕ) → x ≡ one_if (bit_at (bit_and inside (2 ^ 64 - 1 - bits)) (c % 64)) → y ≡ one_if (bit_at inside (c % 64))
+        → RunOf cols from to word inside (up_to (bit_or bits ((1 * 2 ^ (c % 64)) % 2 ^ 64)) (e + 1) (pairs + x) (sources + y))
+    run-turn hc l d x y new own-source =
         record {
           since = omega (arith, inv.since);
           within = omega arith;
@@ -134,8 +124,8 @@ module _ (cols : List ℕ) (from to word inside : ℕ) where
               ∙ word-ext (λ i. before i || eqb (64 * word + c % 64) i) (λ i. is_in i (slice from (e + 1) cols)) 64 (64 * word)
               (λ i a b. ap (λ (x : ℕ). before i || eqb x i) own ∙ sym (in-behind i from e cols inv.since (omega arith)));
           here = λ j a b. at_turn j a (eq-or-ne j e) b;
-          pairs = pairs_next inside bits (c % 64) pairs fits (omega arith) inv.pairs;
-          sources = ap (λ (x : ℕ). sources + x) (bit-down inside (c % 64)) ∙ count_next (λ i. bit_at inside (get_or cols i 0 % 64)) from e sources (bit_at inside (c % 64)) inv.since refl inv.sources;
+          pairs = ap (λ (k : ℕ). pairs + k) new ∙ pairs_next inside bits (c % 64) pairs fits (omega arith) inv.pairs;
+          sources = ap (λ (k : ℕ). sources + k) own-source ∙ count_next (λ i. bit_at inside (get_or cols i 0 % 64)) from e sources (bit_at inside (c % 64)) inv.since refl inv.sources;
         }
       where
         before : ℕ → Bool
@@ -153,11 +143,10 @@ module _ (cols : List ℕ) (from to word inside : ℕ) where
 
   -- one entry alone
   pub run-single : to ≤ length cols → from < to → get_or cols from 0 / 64 ≡ word
-      → RunOf cols from to word inside (up_to ((1 * 2 ^ (get_or cols from 0 % 64)) % 2 ^ 64) (from + 1) (inside / 2 ^ (get_or cols from 0 % 64) % 2) (inside / 2 ^ (get_or cols from 0 % 64) % 2))
+      → RunOf cols from to word inside (up_to ((1 * 2 ^ (get_or cols from 0 % 64)) % 2 ^ 64) (from + 1) (one_if (bit_at inside (get_or cols from 0 % 64))) (one_if (bit_at inside (get_or cols from 0 % 64))))
   run-single hc l d =
-      subst (λ (x : ℕ). RunOf cols from to word inside (up_to ((1 * 2 ^ b) % 2 ^ 64) (from + 1) x (inside / 2 ^ b % 2))) all
-      (subst (λ (x : ℕ). RunOf cols from to word inside (up_to ((1 * 2 ^ b) % 2 ^ 64) (from + 1) (0 + bit_and inside (2 ^ 64 - 1 - 0) / 2 ^ b % 2) x)) (zero-add (inside / 2 ^ b % 2))
-      (run-turn 0 from 0 0 (run-start (omega arith)) hc l d))
+      subst (λ (k : ℕ). RunOf cols from to word inside (up_to ((1 * 2 ^ b) % 2 ^ 64) (from + 1) k k)) (zero-add (one_if (bit_at inside b)))
+      (run-turn 0 from 0 0 (run-start (omega arith)) hc l d _ _ (ap one_if all) refl)
     where
       b : ℕ
       b = get_or cols from 0 % 64
@@ -167,11 +156,8 @@ module _ (cols : List ℕ) (from to word inside : ℕ) where
       whole false = refl
 
       -- no bit was taken before it
-      all : 0 + bit_and inside (2 ^ 64 - 1 - 0) / 2 ^ b % 2 ≡ inside / 2 ^ b % 2
-      all =
-          zero-add (bit_and inside (2 ^ 64 - 1 - 0) / 2 ^ b % 2) ∙ bit-down (bit_and inside (2 ^ 64 - 1 - 0)) b
-          ∙ ap one_if (bit-and inside (2 ^ 64 - 1 - 0) b ∙ ap (λ (t : Bool). bit_at inside b && t) (bit_not 64 0 b (omega arith) (omega arith) ∙ ap not (zero_bit b)) ∙ whole (bit_at inside b))
-          ∙ sym (bit-down inside b)
+      all : bit_at inside b ≡ bit_at (bit_and inside (2 ^ 64 - 1 - 0)) b
+      all = sym (bit-and inside (2 ^ 64 - 1 - 0) b ∙ ap (λ (t : Bool). bit_at inside b && t) (bit_not 64 0 b (omega arith) (omega arith) ∙ ap not (zero_bit b)) ∙ whole (bit_at inside b))
 
 -- ---- the row's words against its runs
 
@@ -280,7 +266,7 @@ module _ (idx masks region cols : List ℕ) (from first : ℕ) where
 
     -- entry i is inside, as a number
     abbrev one : ℕ
-    one = get_or region (column / 64) 0 / 2 ^ (column % 64) % 2
+    one = one_if (in_mask region column)
 
     abbrev differs : ℕ
     differs = bit_or (bit_xor (get_or idx (from + i) 0) (column / 64)) (bit_xor (get_or masks (from + i) 0) ((1 * 2 ^ (column % 64)) % 2 ^ 64))
@@ -290,14 +276,15 @@ module _ (idx masks region cols : List ℕ) (from first : ℕ) where
 
     single_counts : sources + one ≡ counted held first (first + i + 1)
     unfolding in_mask
-    single_counts = ap (λ (x : ℕ). sources + x) (bit-down (get_or region (column / 64) 0) (column % 64)) ∙ count_next held first (first + i) sources (held (first + i)) (omega arith) refl inv.by_sources
+    single_counts = count_next held first (first + i) sources (held (first + i)) (omega arith) refl inv.by_sources
 
-    pub single_turn : (to : ℕ) → from + i < to → to ≤ length idx → to ≤ length masks → Rising idx from to → end ≤ length cols → Singly end (i + 1) (bit_or other differs) (sources + one)
-    single_turn to below hi hm ris hc =
-        record {
+    pub single_turn : (to : ℕ) → from + i < to → to ≤ length idx → to ≤ length masks → Rising idx from to → end ≤ length cols → (x : ℕ) → x ≡ one → Singly end (i + 1) (bit_or other differs) (sources + x)
+    unfolding in_mask
+    single_turn to below hi hm ris hc x own =
+        subst (λ (k : ℕ). Singly end (i + 1) (bit_or other differs) (sources + k)) (sym own) (record {
           by_sources = subst (λ (e : ℕ). sources + one ≡ counted held first e) entry single_counts;
           alike = λ z. subst (λ (k : ℕ). Following end k (first + (i + 1)) (sources + one) (sources + one)) word (subst (λ (e : ℕ). Following end (from + i + 1) e (sources + one) (sources + one)) entry (turn z));
-        }
+        })
       where
         word : from + i + 1 ≡ from + (i + 1)
         word = omega arith

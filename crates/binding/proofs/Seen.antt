@@ -11,7 +11,6 @@ use lib.Bits.{bit_and, bit_or}
 use lib.Dec.{T, ltb, eqb, lt→ltb, ltb→lt, T_not}
 use lib.ListN.{length, get_or, set}
 use lib.Seq.{slice}
-use Rattle.base.specs.Checks.{side_limit}
 use Rattle.base.specs.Lists.{is_in}
 use Rattle.base.specs.Sets.{any_below}
 use Rattle.base.proofs.Bools.{bool-ext, T_of, T_true, T_false, not-T-of, and_l, and_r, and_i, or-e, or-false, eqb_swap}
@@ -21,7 +20,7 @@ use Rattle.word.specs.Bits.{bit_at, word_of}
 use Rattle.word.proofs.Words.{word_lt, bit_word, word-of-bits, word-ext, word_none, word-op, word-empty, or-empty, or-bitwise, and-bitwise, and-not-bitwise}
 use Rattle.mask.specs.Mask.{in_mask, words_needed, mask_words, IsMask}
 use Rattle.mask.proofs.Masks.{mask-holds, mask-cong, mask_is, mask-store, word_at, is-of, is-length, is_word}
-use Rattle.mask.proofs.Stores.{put_in}
+use Rattle.mask.specs.Answers.{with_node}
 use Rattle.side.specs.Side.{row_holds}
 use Rattle.side.specs.Check.{Rising}
 use Rattle.side.proofs.Holding.{holds-none, holds-next, holds_not}
@@ -85,11 +84,9 @@ module _ (n : ℕ) (cols seen : List ℕ) (from : ℕ) where
       m.exact
       ∙ mask-cong n (in_mask seen) (joined from) (λ c l. sym (ap (λ (t : Bool). in_mask seen c || t) (in-empty c from cols) ∙ or-false (in_mask seen c)))
 
-  pub join-turn : n ≤ side_limit → (e : ℕ) → from ≤ e → e < length cols → get_or cols e 0 < n
-      → set (mask_words n (joined e)) (get_or cols e 0 / 64) (bit_or (get_or (mask_words n (joined e)) (get_or cols e 0 / 64) 0) ((1 * 2 ^ (get_or cols e 0 % 64)) % 2 ^ 64)) ≡ mask_words n (joined (e + 1))
-  join-turn s e h l u =
-      put_in n (mask_words n (joined e)) (mask_is n (joined e) s) (get_or cols e 0) u
-      ∙ mask-cong n (λ c. cond (eqb c (get_or cols e 0)) true (in_mask (mask_words n (joined e)) c)) (joined (e + 1))
+  pub join-turn : (e : ℕ) → from ≤ e → e < length cols → with_node n (mask_words n (joined e)) (get_or cols e 0) true ≡ mask_words n (joined (e + 1))
+  join-turn e h l =
+      mask-cong n (λ c. cond (eqb c (get_or cols e 0)) true (in_mask (mask_words n (joined e)) c)) (joined (e + 1))
       (λ c v. ap (cond (eqb c (get_or cols e 0)) true) (mask-holds n (joined e) c v)
       ∙ choose (eqb c (get_or cols e 0)) (in_mask seen c) (is_in c (slice from e cols))
       ∙ ap (λ (t : Bool). in_mask seen c || (is_in c (slice from e cols) || t)) (eqb_swap c (get_or cols e 0))

@@ -1,16 +1,19 @@
 -- What the members' rows hold inside the region, counted: the sources of a row, and all rows settled one after the other. Assumes nothing.
 use Rattle.mask.proofs.Masks.{mask-length}
-use Rattle.binding.proofs.Rows.{row-entries}
-use mathlib.Core.Path.{◌≡◌, sym, ap, ap₂, ◌∙◌, subst}
+use Rattle.binding.proofs.Rows.{row-entries, row-long, row_column}
+use mathlib.Core.Path.{◌≡◌, refl, sym, ap, ap₂, ◌∙◌, subst}
 use Rattle.std.specs.Prelude.{Result, Ok, Err, Option, Some}
 use Rattle.base.specs.Checks.{answer}
-use mathlib.Core.Bool.{Bool}
+use mathlib.Core.Bool.{Bool, true, false, cond}
+use Rattle.std.specs.List.{filter}
+use Rattle.std.proofs.lemmas.List.Filters.{length-filter_more}
 use mathlib.Core.List.{List}
 use Prim.Native.Nat.{ℕ, zero, suc, ◌+◌, ◌-◌, ◌≤◌, ◌<◌}
 use native.Mathlib.Omega.{arith}
 use native.Mathlib.Nat.{le_refl}
 use lib.Dec.{T}
-use lib.ListN.{get_or}
+use lib.ListN.{length, get_or, take}
+use lib.Seq.{take-length}
 use Rattle.base.specs.Checks.{entry_limit}
 use Rattle.base.specs.Sets.{one_if, sum_below, sum_over, count_below}
 use Rattle.base.specs.declared.Refusal.{Refusal}
@@ -18,14 +21,14 @@ use Rattle.base.proofs.Checks.{on-accepted, on-refused}
 use Rattle.base.proofs.Sets.{sum-zero, sum-suc, sum-append, count-cong, count-le}
 use Rattle.mask.specs.Mask.{in_mask}
 use Rattle.mask.proofs.Nexts.{Next}
-use Rattle.csr32.specs.Matrix.{stored, IsMatrix}
+use Rattle.csr32.specs.Matrix.{row_of, stored, IsMatrix}
 use Rattle.side.specs.Side.{side_holds}
 use Rattle.side.specs.Check.{IsSide}
 use Rattle.pattern.specs.Pattern.{inside, pairs_inside}
 use Rattle.pattern.proofs.Walks.{sum_first, sum-turn, sum_room, count-first, count_turn}
 use Rattle.pattern.proofs.Counting.{kept-within}
 use Rattle.binding.specs.Binding.{row_faults, binding_check}
-use Rattle.binding.specs.Steps.{row_sources, row_counts, counts_of, Followed}
+use Rattle.binding.specs.Steps.{row_sources, row_counts, together, Few, counts_of, Followed}
 use Rattle.binding.specs.declared.RowCounts.{RowCounts}
 use Rattle.binding.specs.declared.Counts.{Counts}
 use Rattle.binding.proofs.Answers.{row-passes, row-stops}
@@ -54,6 +57,26 @@ module _ (p : ℕ → Bool) (from : ℕ) where
       ap₂ ◌+◌ i (m ∙ count-cong (f - e) (λ j. p (e + j)) (λ j. p (from + ((e - from) + j))) (λ j u. let s : e + j ≡ from + ((e - from) + j) = omega arith in ap p s))
       ∙ sym (sum-append (e - from) (f - e) (λ j. one_if (p (from + j)))) ∙ ap (λ (k : ℕ). count_below k (λ j. p (from + j))) n
 
+-- how many of a list a filter keeps
+module _ (p : ℕ → Bool) (xs : List ℕ) where
+  one : (b : Bool) → cond b 1 0 ≡ one_if b
+  one true = refl
+  one false = refl
+
+  -- of the first k
+  kept : (k : ℕ) → k ≤ length xs → length (filter p (take k xs)) ≡ count_below k (λ j. p (get_or xs j 0))
+  kept zero h = sym (sum-zero (λ j. one_if (p (get_or xs j 0))))
+  kept (suc k) h =
+      let next : suc k ≡ k + 1 = omega arith in
+      ap (λ (j : ℕ). length (filter p (take j xs))) next
+      ∙ length-filter_more p xs k 0 (omega arith)
+      ∙ ap₂ ◌+◌ (kept k (omega arith)) (one (p (get_or xs k 0)))
+      ∙ sym (sum-suc k (λ j. one_if (p (get_or xs j 0))))
+      ∙ ap (λ (j : ℕ). count_below j (λ i. p (get_or xs i 0))) (sym next)
+
+  kept-all : length (filter p xs) ≡ count_below (length xs) (λ j. p (get_or xs j 0))
+  kept-all = ap (λ (l : List ℕ). length (filter p l)) (sym (take-length xs)) ∙ kept (length xs) (le_refl (length xs))
+
 -- ---- a row
 
 -- a row whose pairs are its entries
@@ -63,10 +86,17 @@ row-follows n p s ptr cols r k counts run was =
     let w = run counts was in
     on-accepted (row_faults n p (s r) (stored ptr cols r)) (Ok (row_counts n p s ptr cols r)) _ Err (row-agrees n p (s r) (stored ptr cols r) w.0) (ap Ok w.1)
 
+-- how many of a row's columns are inside
+pub row-inside : (n : ℕ) (p : ℕ → Bool) (ptr cols : List ℕ) → IsMatrix n n ptr cols → (r : ℕ) → r < n → length (filter p (row_of ptr cols r)) ≡ row_sources p ptr cols r
+row-inside n p ptr cols m r h =
+    kept-all p (row_of ptr cols r) ∙ ap (λ (k : ℕ). count_below k (λ j. p (get_or (row_of ptr cols r) j 0))) (row-long n ptr cols m r h)
+    ∙ count-cong (get_or ptr (r + 1) 0 - get_or ptr r 0) (λ j. p (get_or (row_of ptr cols r) j 0)) (λ j. p (get_or cols (get_or ptr r 0 + j) 0))
+    (λ j l. ap p (row_column n ptr cols m r h j (omega (arith, row-long n ptr cols m r h))))
+
 -- ---- over the members' rows
 
-same-counts : (m m' a a' b b' : ℕ) → m ≡ m' → a ≡ a' → b ≡ b' → ◌≡◌ {A = Counts} (record { members = m; pairs = a; sources = b }) (record { members = m'; pairs = a'; sources = b' })
-same-counts m m' a a' b b' e f g = ap₂ (λ (x y : ℕ). record { members = x; pairs = y; sources = b }) e f ∙ ap (λ (z : ℕ). record { members = m'; pairs = a'; sources = z }) g
+abbrev pub nothing : RowCounts
+nothing = record { pairs = 0; sources = 0 }
 
 -- in the first k rows no more than there are
 pub rows-within : (n : ℕ) (p : ℕ → Bool) (ptr cols : List ℕ) → IsMatrix n n ptr cols → (k : ℕ) → k ≤ n → sum_below k (row_sources p ptr cols) ≤ get_or ptr k 0
@@ -113,35 +143,36 @@ module _ (n : ℕ) (region word_ptr idx masks ptr cols : List ℕ) where
   abbrev bound : Result Counts Refusal
   bound = answer (binding_check n p s entries) (counts_of n p s ptr cols)
 
+  -- what the rows of the members below r hold
+  abbrev pub rows_hold : ℕ → RowCounts
+  rows_hold r = record { pairs = sum_over r p pairs; sources = sum_over r p sources }
+
   -- the rows of the members below r pass and are counted
-  pub record Settling (m a b r : ℕ) : Type 0 where
+  pub record Settling (m : ℕ) (held : RowCounts) (r : ℕ) : Type 0 where
     pub checked : Checking n region s entries r
     pub members : m ≡ count_below r p
-    pub by_pairs : a ≡ sum_over r p pairs
-    pub by_sources : b ≡ sum_over r p sources
+    pub by_rows : held ≡ rows_hold r
 
-  pub settle_first : (r : ℕ) → Next n region 0 r → Settling 0 0 0 r
-  settle_first r next =
+  pub settle_first : (held : RowCounts) (r : ℕ) → held ≡ nothing → Next n region 0 r → Settling 0 held r
+  settle_first held r e next =
       record {
         checked = check_first n region s entries r next;
         members = count-first n region r next;
-        by_pairs = sum_first n region r pairs next;
-        by_sources = sum_first n region r sources next;
+        by_rows = e ∙ (λ i. record { pairs = sum_first n region r pairs next i; sources = sum_first n region r sources next i });
       }
 
-  pub settle_last : (m a b r : ℕ) → Settling m a b r → n ≤ r → Ok (record { members = m; pairs = a; sources = b }) ≡ bound
+  pub settle_last : (m : ℕ) (held : RowCounts) (r : ℕ) → Settling m held r → n ≤ r → Ok (record { members = m; rows = held }) ≡ bound
   unfolding pairs_inside
-  settle_last m a b r inv l =
+  settle_last m held r inv l =
       let e : r ≡ n = omega (arith, inv.checked.within) in
-      on-accepted (binding_check n p s entries) (Ok (counts_of n p s ptr cols)) _ Err (check_last n region s entries r inv.checked l)
-      (ap Ok
-      (same-counts m _ a _ b _ (inv.members ∙ ap (λ (k : ℕ). count_below k p) e) (inv.by_pairs ∙ ap (λ (k : ℕ). sum_over k p pairs) e) (inv.by_sources ∙ ap (λ (k : ℕ). sum_over k p sources) e)))
+      let counts : ◌≡◌ {A = Counts} (record { members = m; rows = held }) (counts_of n p s ptr cols) = cc (inv.members, inv.by_rows) in
+      on-accepted (binding_check n p s entries) (Ok (counts_of n p s ptr cols)) _ Err (check_last n region s entries r inv.checked l) (ap Ok counts)
 
   -- what is said of row r
   abbrev pub row_answer : ℕ → Result RowCounts Refusal
   row_answer r = answer (row_faults n p (s r) (entries r)) (row_counts n p s ptr cols r)
 
-  module _ (m a b r : ℕ) (inv : Settling m a b r) (l : r < n) where
+  module _ (m : ℕ) (held : RowCounts) (r : ℕ) (inv : Settling m held r) (l : r < n) where
     pub stop_check : (f : Refusal) → Err f ≡ row_answer r → binding_check n p s entries ≡ Err f
     stop_check f is = check_stop n region s entries r inv.checked l f (row-stops _ (row_counts n p s ptr cols r) f is)
 
@@ -155,22 +186,24 @@ module _ (n : ℕ) (region word_ptr idx masks ptr cols : List ℕ) where
       pub row_pairs : row.pairs ≡ pairs r
       row_pairs = ap (λ (t : RowCounts). t.pairs) fine.1
 
+      together_is : together held row ≡ together (rows_hold r) (row_counts n p s ptr cols r)
+      together_is = ap₂ together inv.by_rows fine.1
+
       -- no more pairs than the topology has, no more sources than the matrix has entries
-      pub pairs_fit : IsSide n n word_ptr idx masks → a + row.pairs ≤ entry_limit
-      pairs_fit side = omega (arith, inv.by_pairs, row_pairs, sum_room n region r pairs l, kept-within n word_ptr idx masks side p)
+      pub settle_room : IsSide n n word_ptr idx masks → IsMatrix n n ptr cols → Few (together held row)
+      settle_room side matrix =
+          subst Few (sym together_is)
+          (record {
+            few_pairs = omega (arith, sum_room n region r pairs l, kept-within n word_ptr idx masks side p);
+            few_sources = omega (arith, sum_room n region r sources l, rows-within n p ptr cols matrix n (le_refl n), matrix.ends, matrix.few_entries);
+          })
 
-      pub sources_fit : IsMatrix n n ptr cols → b + row.sources ≤ entry_limit
-      sources_fit matrix =
-          let f : row.sources ≡ sources r = ap (λ (t : RowCounts). t.sources) fine.1 in
-          omega (arith, inv.by_sources, f, sum_room n region r sources l, rows-within n p ptr cols matrix n (le_refl n), matrix.ends, matrix.few_entries)
-
-      pub settle_turn : (r' : ℕ) → Next n region (r + 1) r' → Settling (m + 1) (a + row.pairs) (b + row.sources) r'
-      settle_turn r' next =
+      pub settle_turn : (held' : RowCounts) → held' ≡ together held row → (r' : ℕ) → Next n region (r + 1) r' → Settling (m + 1) held' r'
+      settle_turn held' e r' next =
           record {
             checked = check_turn n region s entries r inv.checked l fine.0 r' next;
             members = ap (λ (k : ℕ). k + 1) inv.members ∙ count_turn n region r r' (inv.checked.member l) next;
-            by_pairs = ap₂ ◌+◌ inv.by_pairs row_pairs ∙ sum-turn n region r r' pairs (inv.checked.member l) next;
-            by_sources = ap₂ ◌+◌ inv.by_sources (ap (λ (t : RowCounts). t.sources) fine.1) ∙ sum-turn n region r r' sources (inv.checked.member l) next;
+            by_rows = e ∙ together_is ∙ (λ i. record { pairs = sum-turn n region r r' pairs (inv.checked.member l) next i; sources = sum-turn n region r r' sources (inv.checked.member l) next i });
           }
 
 -- ---- what a call on a row or on a mask asks for

@@ -40,6 +40,15 @@ sources_inside n p ptr cols = sum_over n p (λ r. row_sources p ptr cols r)
 abbrev pub row_counts : ℕ → (ℕ → Bool) → (ℕ → ℕ → Bool) → List ℕ → List ℕ → ℕ → RowCounts
 row_counts n p s ptr cols r = record { pairs = count_below n (inside p s r); sources = row_sources p ptr cols r }
 
+-- two together
+abbrev pub together : RowCounts → RowCounts → RowCounts
+together a b = record { pairs = a.pairs + b.pairs; sources = a.sources + b.sources }
+
+-- within what an accepted topology and matrix can give
+pub record Few (c : RowCounts) : Type 0 where
+  pub few_pairs : c.pairs ≤ entry_limit
+  pub few_sources : c.sources ≤ entry_limit
+
 -- what is said of a row whose words are its entries: its pairs are they, and what is inside is counted; none says nothing
 abbrev pub Followed : ℕ → (ℕ → Bool) → (ℕ → ℕ → Bool) → List ℕ → List ℕ → ℕ → Option RowCounts → Type 0
 Followed n p s ptr cols r k = (counts : RowCounts) → k ≡ Some counts → ((c : ℕ) → c < n → s r c ≡ stored ptr cols r c) × (counts ≡ row_counts n p s ptr cols r)
@@ -50,4 +59,4 @@ has_pair n p s r = p r && ltb 0 (count_below n (inside p s r))
 
 -- all members', and how many members there are
 abbrev pub counts_of : ℕ → (ℕ → Bool) → (ℕ → ℕ → Bool) → List ℕ → List ℕ → Counts
-counts_of n p s ptr cols = record { members = count_below n p; pairs = pairs_inside n p s; sources = sources_inside n p ptr cols }
+counts_of n p s ptr cols = record { members = count_below n p; rows = record { pairs = pairs_inside n p s; sources = sources_inside n p ptr cols } }

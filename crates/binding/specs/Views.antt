@@ -1,6 +1,5 @@
 -- What is said of a system: a region of a square topology, and the matrix of the same nodes.
-use Rattle.std.specs.Prelude.{Bool, List, Option, ℕ, ◌+◌, get_or}
-use Rattle.std.proofs.Math.Seq.{slice}
+use Rattle.std.specs.Prelude.{Bool, Option, ℕ}
 use Rattle.base.specs.Checks.{Check}
 use Rattle.mask.specs.Views.{nodes}
 use Rattle.csr32.specs.Views.{entries}
@@ -30,11 +29,7 @@ row_held s r = row_counts s.local.region.len (nodes s.local.region) (pairs s.loc
 abbrev pub FollowedRow : System → ℕ → Option RowCounts → Type 0
 FollowedRow s r k = Followed s.local.region.len (nodes s.local.region) (pairs s.local.rows) s.matrix.row_ptr.now s.matrix.col_idx.now r k
 
--- the columns of row r's entries, in stored order
-abbrev pub row_columns : System → ℕ → List ℕ
-row_columns s r = slice (get_or s.matrix.row_ptr.now r 0) (get_or s.matrix.row_ptr.now (r + 1) 0) s.matrix.col_idx.now
-
--- how many of them are inside
+-- how many of row r's entries have their column inside
 abbrev pub row_inside : System → ℕ → ℕ
 row_inside s r = row_sources (nodes s.local.region) s.matrix.row_ptr.now s.matrix.col_idx.now r
 

@@ -9,14 +9,17 @@ ghost use Rattle.mask.specs.Mask.{in_mask, mask_words, IsMask};
 ghost use Rattle.mask.specs.Answers.{with_node};
 ghost use Rattle.mask.specs.Views.{nodes};
 ghost use Rattle.csr32.specs.Matrix.{IsMatrix};
-ghost use Rattle.csr32.specs.Views.{entries};
+ghost use Rattle.csr32.specs.Views.{entries, columns_of_row};
 ghost use Rattle.side.specs.Views.{pairs};
 ghost use Rattle.pattern.specs.Pattern.{inside};
+ghost use Rattle.pattern.specs.Steps.{region_kept};
 ghost use Rattle.binding.specs.Steps.{RunOf, sources_inside};
 
 use crate::{Counts, RowCounts, Run};
 use base::Refusal;
 use csr32::inner::Matrix;
+use mask::LARGEST_WORDS;
+use pattern::RegionKept;
 use pattern::inner::Local;
 use word::AbtmTopologyWord;
 
@@ -30,7 +33,8 @@ pub struct System<'a> {
 
 // The entries from `from` on that lie in the word, up to the first that does not; `inside` is the region's word. A column is a pair at its first
 // entry, where its bit is not yet taken. The loop counts entries by number, since where the run ends is asked for. No branch tells a member and no
-// bits are counted at the end: the members of a region follow no order, and the baseline x86-64 has no popcount.
+// bits are counted at the end: the members of a region follow no order, and the baseline x86-64 has no popcount. The contract is of any run of the
+// word from `from` on, and not of the longest: of a shorter one the bits or the row's end would differ, and its caller would answer None.
 fn take_word(col_idx: &[u32], from: usize, to: usize, word: usize, inside: u64) -> Run
     requires { (from ≤ to) × (to ≤ length col_idx.now) × (length col_idx.now ≤ entry_limit) }
     ensures { RunOf col_idx.now from to word inside result }
@@ -49,8 +53,8 @@ fn take_word(col_idx: &[u32], from: usize, to: usize, word: usize, inside: u64) 
             };
         }
         let b = c % AbtmTopologyWord::BITS;
-        sources += ((inside >> b) % 2) as usize;
-        pairs += (((inside & !bits) >> b) % 2) as usize;
+        sources += usize::from(word::inner::bit(inside, b));
+        pairs += usize::from(word::inner::bit(inside & !bits, b));
         bits |= 1u64 << b;
     }
     Run {
@@ -62,10 +66,13 @@ fn take_word(col_idx: &[u32], from: usize, to: usize, word: usize, inside: u64) 
 }
 
 impl System<'_> {
-    ghost use Rattle.binding.specs.Views.{check_binding, row_check, held, row_held, FollowedRow, row_columns, row_inside, paired_row};
+    ghost use Rattle.binding.specs.Views.{check_binding, row_check, held, row_held, FollowedRow, row_inside, paired_row};
 
     // What row r holds inside the region where its words are its entries, both read once: so it is where the row rises and the topology is the
-    // matrix's own. None says nothing. A row's words are a position in two lists, as document 01 has it, and so are walked by index here and below.
+    // matrix's own. None says nothing, here and in all that follow rows: it sends the caller to the masks, which check and count any row, and so no
+    // answer hangs on which rows are followed. A row's words are a position in two lists here and below, the form that document 01 asks for in the
+    // place of the Rust's iterator `words()`. A row is its number: `r < self.local.region.len` is asked nine times, but in a struct of a system and a
+    // row the nine functions would reach each list through one field more, and the loops over the members would make the struct for each row.
     fn follow_row(self, r: usize) -> Option<RowCounts>
         requires { r < self.local.region.len }
         ensures { FollowedRow self.entry r result }
@@ -92,9 +99,9 @@ impl System<'_> {
         Some(RowCounts { pairs, sources })
     }
 
-    // As `follow_row` where row r has as many words as entries: each word is one entry then, or there is no answer. What differs is collected and looked at
-    // once, in the end, so that no entry waits for the one before it. By number: a `zip` of the three slices is no plainer, because its elements are pairs
-    // of pairs.
+    // As `follow_row` where row r has as many words as entries: each word is one entry then, or there is no answer. What differs is collected and
+    // looked at once, in the end, so that no entry waits for the one before it. By number: a `zip` of the three slices is no plainer, because its
+    // elements are pairs of pairs.
     fn follow_single(self, r: usize) -> Option<RowCounts>
         requires { (r < self.local.region.len) × (get_or self.local.rows.row_word_ptr.now (r + 1) 0 - get_or self.local.rows.row_word_ptr.now r 0 ≡ get_or self.matrix.row_ptr.now (r + 1) 0 - get_or self.matrix.row_ptr.now r 0) }
         ensures { FollowedRow self.entry r result }
@@ -110,7 +117,7 @@ impl System<'_> {
             let b = c % AbtmTopologyWord::BITS;
             let index = self.local.rows.word_indices[from + i] as usize;
             other |= (index ^ w) as u64 | (self.local.rows.masks[from + i] ^ (1u64 << b));
-            sources += ((self.local.region.words[w] >> b) % 2) as usize;
+            sources += usize::from(self.local.region.holds(c));
         }
         if other != 0 {
             return None;
@@ -138,13 +145,10 @@ impl System<'_> {
     #[tactic(auto, using(crate::proofs::Seen::joining))]
     fn add_entries(self, r: usize, seen: &mut [u64])
         requires { (r < self.local.region.len) × IsMask self.local.region.len seen.old }
-        ensures { seen.new ≡ mask_words self.entry.local.region.len (λ c. in_mask seen.old c || is_in c (row_columns self.entry r)) }
+        ensures { seen.new ≡ mask_words self.entry.local.region.len (λ c. in_mask seen.old c || is_in c (columns_of_row self.entry.matrix r)) }
     {
-        let from = self.matrix.row_ptr[r] as usize;
-        let to = self.matrix.row_ptr[r + 1] as usize;
-        for column in &self.matrix.col_idx[from..to] {
-            let c = *column as usize;
-            seen[c / AbtmTopologyWord::BITS] |= 1u64 << (c % AbtmTopologyWord::BITS);
+        for column in self.matrix.row_columns(r) {
+            mask::inner::put(self.local.region.len, seen, *column as usize, true);
         }
     }
 
@@ -169,14 +173,12 @@ impl System<'_> {
 
     // The mask is emptied; it holds columns of row r's entries alone. Whether one was inside the region.
     fn drain(self, r: usize, seen: &mut [u64]) -> bool
-        requires { (r < self.local.region.len) × IsMask self.local.region.len seen.old × ((c : ℕ) → c < self.local.region.len → T (in_mask seen.old c) → T (is_in c (row_columns self r))) }
+        requires { (r < self.local.region.len) × IsMask self.local.region.len seen.old × ((c : ℕ) → c < self.local.region.len → T (in_mask seen.old c) → T (is_in c (columns_of_row self.matrix r))) }
         ensures value { result ≡ any_below self.entry.local.region.len (λ c. nodes self.entry.local.region c && in_mask seen.old c) }
         ensures seen_after { seen.new ≡ mask_words self.entry.local.region.len (λ i. false) }
     {
-        let from = self.matrix.row_ptr[r] as usize;
-        let to = self.matrix.row_ptr[r + 1] as usize;
         let mut extra: u64 = 0;
-        for column in &self.matrix.col_idx[from..to] {
+        for column in self.matrix.row_columns(r) {
             let w = *column as usize / AbtmTopologyWord::BITS;
             extra |= seen[w] & self.local.region.words[w];
             seen[w] = 0;
@@ -184,7 +186,7 @@ impl System<'_> {
         extra != 0
     }
 
-    // 23, then 24, of row r: what its words do not take from its entries is missing from the topology.
+    // A pair without an entry, then an entry without a pair, of row r: what its words do not take from its entries is missing from the topology.
     fn check_row(self, r: usize, seen: &mut [u64]) -> Result<(), Refusal>
         requires { (r < self.local.region.len) × (seen.old ≡ mask_words self.local.region.len (λ i. false)) }
         ensures value { result ≡ row_check self.entry r }
@@ -207,20 +209,17 @@ impl System<'_> {
         requires { r < self.local.region.len }
         ensures { result ≡ row_inside self.entry r }
     {
-        let from = self.matrix.row_ptr[r] as usize;
-        let to = self.matrix.row_ptr[r + 1] as usize;
-        let mut count: usize = 0;
-        for column in &self.matrix.col_idx[from..to] {
-            if self.local.region.holds(*column as usize) {
-                count += 1;
-            }
-        }
-        count
+        self.matrix
+            .row_columns(r)
+            .iter()
+            .filter(|column| self.local.region.holds(**column as usize))
+            .count()
     }
 
-    // How many entries of the members' rows have their column inside the region.
+    // How many entries of the members' rows have their column inside the region. By `map` and `sum` it was tried: left were what the closure asks of
+    // each member and that the sum fits, since no law says which list the members' iterator yields.
     #[tactic(auto, using(crate::proofs::Sources::rows))]
-    pub fn count_sources(self) -> usize
+    fn count_sources(self) -> usize
         ensures { result ≡ sources_inside self.entry.local.region.len (nodes self.entry.local.region) self.entry.matrix.row_ptr.now self.entry.matrix.col_idx.now }
     {
         let mut sources: usize = 0;
@@ -228,6 +227,20 @@ impl System<'_> {
             sources += self.count_inside(r);
         }
         sources
+    }
+
+    // What the members' rows hold where nothing is left to check, given what the topology holds inside the region.
+    pub fn counts(self, kept: RegionKept) -> Counts
+        requires { kept ≡ region_kept self.local.region.len (nodes self.local.region) (pairs self.local.rows) }
+        ensures { result ≡ held self.entry }
+    {
+        Counts {
+            members: kept.members,
+            rows: RowCounts {
+                pairs: kept.rows.kept,
+                sources: self.count_sources(),
+            },
+        }
     }
 
     // Row r in one pass where its words are its entries; any other is checked, then counted.
@@ -255,59 +268,48 @@ impl System<'_> {
         ensures marks { (counts : Counts) → result ≡ Some counts → paired.new ≡ mask_words self.entry.local.region.len (paired_row self.entry) }
     {
         let mut members: usize = 0;
-        let mut pairs: usize = 0;
-        let mut sources: usize = 0;
+        let mut rows = RowCounts::default();
         for r in self.local.region.members() {
             let row = self.follow(r)?;
             members += 1;
-            pairs += row.pairs;
-            sources += row.sources;
+            rows = rows + row;
             mark_row(self.local.region.len, r, row.pairs, paired);
         }
-        Some(Counts {
-            members,
-            pairs,
-            sources,
-        })
+        Some(Counts { members, rows })
     }
 
-    // The members' rows in order, what they hold, and which of them have a pair. One walk for this and `follow_members`, with a closure for the row, is no
-    // plainer, because the closure's answers and what it leaves in `seen` would have to be said of each row, and one answers a Result, one an Option.
+    // The members' rows in order, what they hold, and which of them have a pair. One walk for this and `follow_members`, with a closure for the row,
+    // is no plainer, because the closure's answers and what it leaves in `seen` would have to be said of each row, and one answers a Result, one an
+    // Option.
     fn settle_members(self, paired: &mut [u64], seen: &mut [u64]) -> Result<Counts, Refusal>
         requires { (paired.old ≡ mask_words self.local.region.len (λ i. false)) × (seen.old ≡ mask_words self.local.region.len (λ i. false)) }
         ensures value { result ≡ answer (check_binding self.entry) (held self.entry) }
         ensures marks { check_binding self.entry ≡ Ok tt → paired.new ≡ mask_words self.entry.local.region.len (paired_row self.entry) }
     {
         let mut members: usize = 0;
-        let mut pairs: usize = 0;
-        let mut sources: usize = 0;
+        let mut rows = RowCounts::default();
         for r in self.local.region.members() {
             let row = self.settle_row(r, seen)?;
             members += 1;
-            pairs += row.pairs;
-            sources += row.sources;
+            rows = rows + row;
             mark_row(self.local.region.len, r, row.pairs, paired);
         }
-        Ok(Counts {
-            members,
-            pairs,
-            sources,
-        })
+        Ok(Counts { members, rows })
     }
 
-    // `settle_members` with an empty mask of its own for the rows that need it: 16,384 words hold the 1,048,576 nodes that a matrix has at most. An array:
-    // no heap.
+    // `settle_members` with an empty mask of its own for the rows that need it: as many words as the largest matrix asks for. An
+    // array: no heap.
     fn settle(self, paired: &mut [u64]) -> Result<Counts, Refusal>
         requires { paired.old ≡ mask_words self.local.region.len (λ i. false) }
         ensures value { result ≡ answer (check_binding self.entry) (held self.entry) }
         ensures marks { check_binding self.entry ≡ Ok tt → paired.new ≡ mask_words self.entry.local.region.len (paired_row self.entry) }
     {
-        let mut seen: [u64; 16384] = [0; 16384];
+        let mut seen: [u64; LARGEST_WORDS] = [0; LARGEST_WORDS];
         let need = mask::inner::words_for(self.local.region.len);
         self.settle_members(paired, &mut seen[..need])
     }
 
-    // 23 and 24 by local row, what the rows hold, and, where all of them bind, the mask of those that have a pair: the others need no second look.
+    // Both faults by local row, what the rows hold, and, where all of them bind, the mask of those that have a pair: the others need no second look.
     // The mask is empty at first. Where each row's words are its entries nothing else is needed; otherwise all is settled anew.
     #[tactic(auto, using(crate::proofs::Sources::rows))]
     pub fn bind_rows(self, paired: &mut [u64]) -> Result<Counts, Refusal>
@@ -326,7 +328,7 @@ impl System<'_> {
     pub fn bind(self) -> Result<Counts, Refusal>
         ensures { result ≡ answer (check_binding self.entry) (held self.entry) }
     {
-        let mut paired: [u64; 16384] = [0; 16384];
+        let mut paired: [u64; LARGEST_WORDS] = [0; LARGEST_WORDS];
         let need = mask::inner::words_for(self.local.region.len);
         self.bind_rows(&mut paired[..need])
     }

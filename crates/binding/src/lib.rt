@@ -1,6 +1,10 @@
-// Whether the pairs of a topology and the entries of a matrix bind inside a region: refusals 23 and 24 of a numeric plan, by local row. It holds
-// no public call.
+// Whether the pairs of a topology and the entries of a matrix bind inside a region, by local row: a numeric plan refuses a pair without an entry and
+// an entry without a pair. It holds no public call.
 #![tactic(auto)]
+
+ghost use Rattle.std.specs.Prelude.{◌≡◌};
+
+use std::ops::Add;
 
 pub mod inner;
 
@@ -14,17 +18,33 @@ pub struct Run {
     pub sources: usize,
 }
 
-// What one row that binds holds inside the region.
-#[derive(Clone, Copy)]
+// What rows that bind hold inside the region.
+#[derive(Clone, Copy, Default)]
 pub struct RowCounts {
     pub pairs: usize,
     pub sources: usize,
 }
 
-// What the members' rows hold inside the region.
+impl Add for RowCounts {
+    ghost use Rattle.binding.specs.Steps.{together, Few};
+
+    type Output = RowCounts;
+
+    ghost can_add = { λ a b. Few (together a b) };
+
+    ghost add_gives = { λ a b r. r ≡ together a b };
+
+    fn add(self, other: RowCounts) -> RowCounts {
+        RowCounts {
+            pairs: self.pairs + other.pairs,
+            sources: self.sources + other.sources,
+        }
+    }
+}
+
+// How many members there are, and what their rows hold.
 #[derive(Clone, Copy)]
 pub struct Counts {
     pub members: usize,
-    pub pairs: usize,
-    pub sources: usize,
+    pub rows: RowCounts,
 }

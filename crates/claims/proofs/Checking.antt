@@ -26,7 +26,7 @@ use Rattle.dual_topology.specs.declared.AbtmDualTopology.{AbtmDualTopology}
 use Rattle.pattern.specs.Pattern.{member_at}
 use Rattle.binding.specs.Binding.{row_faults, binding_check}
 use Rattle.numeric_plan.specs.Plan.{sides_check}
-use Rattle.claims.specs.Run.{square_topology, pairs_check, arrays_check, run_check, field_run_check}
+use Rattle.claims.specs.Run.{sided_topology, pairs_check, arrays_check, run_check, field_run_check}
 use Rattle.claims.specs.Views.{check_arrays}
 
 -- ---- a length as the last check
@@ -90,14 +90,14 @@ pub record Sides (topology : Check) (nrows ncols rows cols : ℕ) : Type 0 where
   pub as_cols : nrows ≡ cols
   pub square : nrows ≡ ncols
 
-pub accepted-sides : (topology : Check) (nrows ncols rows cols : ℕ) → square_topology topology nrows ncols rows cols ≡ Ok tt → Sides topology nrows ncols rows cols
-unfolding square_topology sides_check
+pub accepted-sides : (topology : Check) (nrows ncols rows cols : ℕ) → sided_topology topology nrows ncols rows cols ≡ Ok tt → Sides topology nrows ncols rows cols
+unfolding sided_topology sides_check
 accepted-sides topology nrows ncols rows cols e =
     let a = both-passed _ _ e in
-    let b = both-passed _ _ a.1 in
-    let d = both-passed _ _ b.0 in
-    let square : nrows ≡ ncols = eqb-true _ _ (passed _ _ b.1) in
-    record { topology_ok = a.0; as_rows = eqb-true _ _ (passed _ _ d.0); as_cols = square ∙ eqb-true _ _ (passed _ _ d.1); square = square }
+    let b = both-passed _ _ a.0 in
+    let d = both-passed _ _ b.1 in
+    let square : nrows ≡ ncols = eqb-true _ _ (passed _ _ a.1) in
+    record { topology_ok = b.0; as_rows = eqb-true _ _ (passed _ _ d.0); as_cols = square ∙ eqb-true _ _ (passed _ _ d.1); square = square }
 
 -- the arrays of what was accepted are those of what was lent
 pub same-arrays : (t : AbtmDualTopology) (m : Csr32Matrix) (s : Side) (a : Matrix) → AcceptedSide t.rows s → AcceptedMatrix m a → (len : ℕ) (seeds hops rooms : List ℕ)

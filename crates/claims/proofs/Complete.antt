@@ -69,7 +69,7 @@ module _ (S : CutSystem) (a : Accepts S) (region : List ℕ) (mask : length_chec
 
   region-passes : (topology : Check) → topology ≡ Ok tt → region_check topology n n S.len region ≡ Ok tt
   unfolding region_check
-  region-passes topology t = then_next _ _ t ∙ sym (pass _ _ _ _ (eq-eqb n n refl) refl) ∙ mask
+  region-passes topology t = then_next _ _ (then_next _ _ t ∙ sym (last-pass _ _ _ (eq-eqb n n refl) refl)) ∙ mask
 
   pub pattern_fits : (nodes ptr cols : List ℕ) → pattern_of S region nodes ptr cols ≡ pattern_room n p (pairs_of S) nodes ptr cols
   unfolding pattern_check

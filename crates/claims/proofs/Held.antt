@@ -1,4 +1,5 @@
--- A run by arrays is a list of growths of demand 3: what it answers and leaves is what the list has come to, and the claim holds of it. Assumes nothing.
+-- A run by arrays is a list of growths of demand 3: what it answers and leaves is what the list has come to, and the claim holds of it. Assumes
+-- nothing.
 use mathlib.Core.Path.{◌≡◌, refl, sym, ap, ap₂, ◌∙◌, subst}
 use Rattle.std.specs.Prelude.{Ok, Err}
 use Rattle.base.specs.Checks.{Check}
@@ -30,7 +31,7 @@ use Rattle.growths.specs.Runs.{largest, Growth, Ground, plain_ground, field_grou
 use Rattle.claims.specs.Demand.{CutSystem, Accepts, Kind, Claim, topology_of, pairs_of, held}
 use Rattle.growths.specs.Counts.{takes, accepted_in, total_in, last_in, ran_of, seeds_after}
 use Rattle.claims.specs.Cutting.{system_of}
-use Rattle.claims.specs.Run.{square_topology, arrays_check, run_check, field_run_check, ran_by}
+use Rattle.claims.specs.Run.{sided_topology, arrays_check, run_check, field_run_check, ran_by}
 use Rattle.growths.specs.declared.Ran.{Ran}
 use Rattle.growths.proofs.Runs.{holds_run}
 use Rattle.growths.proofs.Grounds.{Solid, run-accepted}
@@ -164,7 +165,7 @@ module _ (nrows ncols : ℕ) (ptr idx masks : List ℕ) (pairs nrows2 ncols2 : �
   S = system_of nrows row_ptr col-idx values ptr idx masks pairs ptr2 idx2 masks2 pairs2 len seeds
 
   abbrev sides : Check
-  sides = square_topology topology nrows ncols rows cols
+  sides = sided_topology topology nrows ncols rows cols
 
   abbrev arrays : Check
   arrays = arrays_check nrows len seeds (side_holds ptr idx masks) (stored row_ptr col-idx) hops rooms

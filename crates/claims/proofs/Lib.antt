@@ -8,4 +8,3 @@ pub mod Finishing
 pub mod Checking
 pub mod Held
 pub mod Table
-pub mod Own

@@ -4,9 +4,9 @@ use Rattle.std.specs.Prelude.{Bool, true, cond, List, ℕ, min, eqb, length}
 use Rattle.base.specs.Checks.{Check, answer}
 use Rattle.std.specs.Prelude.{Result, Some, None}
 use Rattle.base.specs.declared.Refusal.{Refusal}
-use Rattle.base.specs.declared.Refusal.TheVariants.{NotSquare}
-use Rattle.base.specs.Checks.{must, must_be, ◌then◌, leaves}
+use Rattle.base.specs.Checks.{must_be, ◌then◌, leaves}
 use Rattle.mask.specs.Mask.{words_needed, length_check}
+use Rattle.dual_topology.specs.Check.{square_topology}
 use Rattle.binding.specs.Binding.{binding_check}
 use Rattle.numeric_plan.specs.Plan.{sides_check}
 use Rattle.growths.specs.Counts.{ran_of}
@@ -17,8 +17,8 @@ use Rattle.claims.specs.declared.GrowthRun.{GrowthRun}
 -- ---- the checks
 
 -- the topology, 22, 10
-unfoldable pub square_topology : Check → ℕ → ℕ → ℕ → ℕ → Check
-square_topology topology nrows ncols rows cols = topology then sides_check nrows ncols rows cols then must (eqb nrows ncols) NotSquare
+unfoldable pub sided_topology : Check → ℕ → ℕ → ℕ → ℕ → Check
+sided_topology topology nrows ncols rows cols = square_topology (topology then sides_check nrows ncols rows cols) nrows ncols
 
 -- 23, 24 over all rows: the topology has exactly the matrix's pairs
 abbrev pub pairs_check : ℕ → (ℕ → ℕ → Bool) → (ℕ → ℕ → Bool) → Check

@@ -1,14 +1,13 @@
 // The local system of the region that a list of growths comes to, for callers that have checked: no part of the API.
-ghost use Rattle.std.specs.Prelude.{◌≡◌, false, ◌+◌, ◌≤◌, length, take, IfOk, IfErr};
+ghost use Rattle.std.specs.Prelude.{◌≡◌, false, IfOk, IfErr};
 ghost use Rattle.base.specs.Checks.{◌then◌, answer};
 ghost use Rattle.mask.specs.Mask.{in_mask, mask_words, IsMask};
 ghost use Rattle.csr32.specs.Views.{check_matrix, entries, AcceptedFrom as AcceptedMatrix};
 ghost use Rattle.side.specs.Views.{pairs, AcceptedFrom as AcceptedSide};
 ghost use Rattle.binding.specs.Binding.{binding_check};
 ghost use Rattle.binding.specs.Steps.{counts_of};
-ghost use Rattle.gather.specs.Gather.{gather_check, gather_answer, gather_left};
 ghost use Rattle.claims.specs.Run.{with_cut, without_cut, arrays_check, pairs_check, if_grown};
-ghost use Rattle.claims.specs.Views.{check_sides, plan_on, answer_on, values_on};
+ghost use Rattle.claims.specs.Views.{check_sides, square_of, plan_on, answer_on, values_on};
 
 use crate::{Cut, GrowthRun};
 use base::Refusal;
@@ -19,38 +18,32 @@ use csr32::inner::Matrix;
 use dual_topology::AbtmDualTopology;
 use gather::GatherPlan;
 use growths::Ran;
-use mask::DofMask;
 use mask::inner::Mask;
+use mask::{DofMask, LARGEST_WORDS};
 use pattern::inner::Local;
 use side::AbtmTopology;
 use side::inner::Side;
 
-// The gather on the first pointers and sources of two lists: a plan's own.
-fn gather_own(
-    source_ptr: &[u32],
-    source_indices: &[u32],
-    pairs: u32,
-    terms: u32,
-    source_value_len: usize,
-    values: &[f64],
-    out: &mut [f64],
-) -> Result<u64, Refusal>
-    requires { (pairs + 1 ≤ length source_ptr.now) × (terms ≤ length source_indices.now) }
-    ensures value { result ≡ gather_answer (gather_check (take (pairs + 1) source_ptr.now) (take terms source_indices.now) source_value_len values.now out.old) (take (pairs + 1) source_ptr.now) }
-    ensures out_after { out.new ≡ gather_left (gather_check (take (pairs + 1) source_ptr.now) (take terms source_indices.now) source_value_len values.now out.old) (take (pairs + 1) source_ptr.now) (take terms source_indices.now) values.now out.old }
+// A topology with as many columns as rows on both of its sides.
+fn squared<'a>(topology: AbtmDualTopology<'a>) -> AbtmDualTopology<'a>
+    ensures { result ≡ square_of topology.entry }
 {
-    let pointers = pairs as usize + 1;
-    let sources = terms as usize;
-    let plan = GatherPlan {
-        source_ptr: &source_ptr[..pointers],
-        source_indices: &source_indices[..sources],
-        source_value_len,
-    };
-    plan.gather_values(values, out)
+    let n = topology.rows.nrows;
+    AbtmDualTopology {
+        rows: AbtmTopology {
+            ncols: n,
+            ..topology.rows
+        },
+        columns: AbtmTopology {
+            nrows: n,
+            ncols: n,
+            ..topology.columns
+        },
+    }
 }
 
-// Pattern, plan and gather on a region, all on one square side, the rows' own: the plan on the lists that the pattern left, the gather on the plan's own
-// pointers and sources. Lists that are written are no struct: a clause could not name what each is left with.
+// Pattern, plan and gather on a region, all on one square side, the rows' own: the plan on the lists that the pattern left, the gather on the plan's
+// own pointers and sources. Lists that are written are no struct: each contract would say besides that the struct's references stay.
 pub fn cut<'a>(
     topology: AbtmDualTopology<'a>,
     matrix: Csr32Matrix<'a>,
@@ -71,19 +64,7 @@ pub fn cut<'a>(
     ensures sources { source_indices.new ≡ (plan_on topology.entry matrix.entry region.entry.len region.entry.words.now global_nodes.old local_row_ptr.old local_col_idx.old source_ptr.old source_indices.old).sources }
     ensures gathered { out.new ≡ values_on topology.entry matrix.entry region.entry.len region.entry.words.now global_nodes.old local_row_ptr.old local_col_idx.old source_ptr.old source_indices.old new_values.now out.old }
 {
-    let n = topology.rows.nrows;
-    let square = AbtmDualTopology {
-        rows: AbtmTopology {
-            nrows: n,
-            ncols: n,
-            ..topology.rows
-        },
-        columns: AbtmTopology {
-            nrows: n,
-            ncols: n,
-            ..topology.columns
-        },
-    };
+    let square = squared(topology);
     let extracted = pattern::extract_local_submatrix_pattern(
         square,
         region,
@@ -91,11 +72,11 @@ pub fn cut<'a>(
         local_row_ptr,
         local_col_idx,
     );
-    match numeric_plan::prepare_local_numeric_plan(
+    let plan = numeric_plan::prepare_local_numeric_plan(
         square,
         Csr32Matrix {
-            nrows: n,
-            ncols: n,
+            nrows: topology.rows.nrows,
+            ncols: topology.rows.nrows,
             ..matrix
         },
         region,
@@ -104,28 +85,22 @@ pub fn cut<'a>(
         local_col_idx,
         source_ptr,
         source_indices,
-    ) {
-        Err(r) => Cut {
-            pattern: extracted,
-            plan: Err(r),
-            gathered: Err(r),
-        },
-        Ok(s) => {
-            let gathered = gather_own(
-                source_ptr,
-                source_indices,
-                s.local_nnz,
-                s.source_terms,
-                matrix.col_idx.len(),
-                new_values,
-                out,
-            );
-            Cut {
-                pattern: extracted,
-                plan: Ok(s),
-                gathered,
-            }
+    );
+    // By `match`: in a closure of `and_then`, tried, the bounds of both parts are a need of that call, to be shown of every plan that it may be
+    // handed, and the check finds neither that nor the answer and what `out` is left with.
+    let gathered = match plan {
+        Err(r) => Err(r),
+        Ok(s) => GatherPlan {
+            source_ptr: &source_ptr[..s.local_nnz as usize + 1],
+            source_indices: &source_indices[..s.source_terms as usize],
+            source_value_len: matrix.col_idx.len(),
         }
+        .gather_values(new_values, out),
+    };
+    Cut {
+        pattern: extracted,
+        plan,
+        gathered,
     }
 }
 
@@ -181,7 +156,7 @@ pub struct Compared<'a> {
 }
 
 // The matrix, the topology, its sides against the matrix's, its shape.
-#[tactic(auto, using(base::proofs::Checks::checks), unfolding(crate::specs::Run::square_topology, numeric_plan::specs::Plan::sides_check))]
+#[tactic(auto, using(base::proofs::Checks::checks), unfolding(crate::specs::Run::sided_topology, numeric_plan::specs::Plan::sides_check))]
 pub fn compare<'a>(
     topology: AbtmDualTopology<'a>,
     matrix: Csr32Matrix<'a>,
@@ -191,12 +166,7 @@ pub fn compare<'a>(
 {
     let matrix = matrix.accept()?;
     let rows = topology.accept()?.rows;
-    if rows.nrows != matrix.nrows {
-        return Err(Refusal::SidesDiffer);
-    }
-    if rows.ncols != matrix.ncols {
-        return Err(Refusal::SidesDiffer);
-    }
+    numeric_plan::inner::check_sides(rows, matrix)?;
     if rows.nrows != rows.ncols {
         return Err(Refusal::NotSquare);
     }
@@ -204,7 +174,7 @@ pub fn compare<'a>(
 }
 
 impl<'a> Compared<'a> {
-    // 23 and 24 over a mask's rows, and what they hold.
+    // Whether topology and matrix have the same pairs in a mask's rows, and what these hold.
     fn bind(self, words: &'a [u64]) -> Result<Counts, Refusal>
         requires { IsMask self.rows.nrows words.now }
         ensures { result ≡ answer (binding_check self.entry.rows.nrows (in_mask words.now) (pairs self.entry.rows) (entries self.entry.matrix)) (counts_of self.entry.rows.nrows (in_mask words.now) (pairs self.entry.rows) self.entry.matrix.row_ptr.now self.entry.matrix.col_idx.now) }
@@ -235,16 +205,16 @@ impl<'a> Compared<'a> {
         Ok(())
     }
 
-    // The same with a mask of its own, in a fixed array, since nothing is on the heap: 16,384 words hold the 1,048,576 nodes that a matrix has at most.
+    // The same with a mask of its own, in a fixed array, since nothing is on the heap: as long as the mask of the largest matrix.
     fn check_pairs(self) -> Result<(), Refusal>
         ensures { result ≡ pairs_check self.entry.rows.nrows (pairs self.entry.rows) (entries self.entry.matrix) }
     {
-        let mut all: [u64; 16384] = [0; 16384];
+        let mut all: [u64; LARGEST_WORDS] = [0; LARGEST_WORDS];
         let need = mask::inner::words_for(self.rows.nrows);
-        self.check_filled(&mut all[0..need])
+        self.check_filled(&mut all[..need])
     }
 
-    // The mask, 23 and 24 over all rows, and one room for each growth.
+    // The mask, the same pairs in all rows, and one room for each growth.
     pub fn check_lists(self, seeds: DofMask, hops: &[u64], rooms: &[u64]) -> Result<(), Refusal>
         ensures { result ≡ arrays_check self.entry.rows.nrows seeds.entry.len seeds.entry.words.now (pairs self.entry.rows) (entries self.entry.matrix) hops.now rooms.now }
     {

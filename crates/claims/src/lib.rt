@@ -1,25 +1,26 @@
-// Demand 3 as one theorem over the definitions that the public promises cite, document 01's table of worked lines, and functions that run what the
-// theorem speaks of: a list of growths, then pattern, plan and gather on the region that it comes to.
+// One theorem over the definitions that the public promises cite, of every list of growths and of pattern, plan and gather on the region that it
+// comes to (docs/PROMISES.md, claims), worked lines through all checks, and functions that run what the theorem speaks of.
 #![tactic(auto)]
 
 ghost use Rattle.std.specs.Prelude.{◌≡◌, Ok, length};
-ghost use Rattle.base.specs.Checks.{Check, leaves};
+ghost use Rattle.base.specs.Checks.{Check};
 ghost use Rattle.mask.specs.Mask.{length_check};
 ghost use Rattle.dof_layout.specs.Views.{check_square};
 ghost use Rattle.dual_topology.specs.declared.AbtmDualTopology.{AbtmDualTopology as Lent};
 ghost use Rattle.dual_topology.specs.Views.{check_topology};
-ghost use Rattle.graph.specs.Network.{Network, region_words};
+ghost use Rattle.graph.specs.Network.{Network};
 ghost use Rattle.region.specs.Views.{plain};
 ghost use Rattle.field_region.specs.Views.{blocked};
 ghost use Rattle.growths.specs.Counts.{seeds_after, region_once_grown, frontier_once_grown, scratch_once_grown};
-ghost use Rattle.claims.specs.Run.{ran_by, run_answer, run_left};
-ghost use Rattle.claims.specs.Views.{check_by, check_run, check_field_run, plan_on, answer_on, values_on};
+ghost use Rattle.claims.specs.Run.{ran_by};
+ghost use Rattle.claims.specs.Views.{check_by, run_by, plain_run, field_run};
 
 use base::Refusal;
 use csr32::Csr32Matrix;
 use dof_layout::FieldAwareDofLayout;
 use dual_topology::AbtmDualTopology;
 use growths::Ran;
+use growths::inner::Asked;
 use mask::DofMask;
 use numeric_plan::AbtmLocalNumericPlanStats;
 use pattern::AbtmLocalSubmatrixPatternStats;
@@ -41,7 +42,9 @@ pub struct GrowthRun {
     pub cut: Option<Cut>,
 }
 
-// By what a list grows: by plain growths, or by field growths under one layout.
+// By what a list grows: by plain growths, or by field growths under one layout. To join this trait to `Grower` of growths, which is one growth of a
+// list, would be no plainer, because each kind would have to state here, as a law, what `grow_list` and `grow_field_list` conclude from the checks
+// (`Solid`).
 trait Growing {
     ghost network: { Self → Lent → Network };
 
@@ -56,14 +59,13 @@ trait Growing {
         topology: AbtmDualTopology,
         len: usize,
         seeds: &mut [u64],
-        hops: &[u64],
-        rooms: &[u64],
+        asked: Asked,
         region: &mut [u64],
         frontier: &mut [u64],
         scratch: &mut [u64],
     ) -> Ran
-        requires { (check_topology topology ≡ Ok tt) × (topology.rows.nrows ≡ topology.rows.ncols) × (besides self.now topology ≡ Ok tt) × (length_check topology.rows.nrows len seeds.old ≡ Ok tt) × (length rooms.now ≡ length hops.now) }
-        ensures value { result ≡ ran_by topology.entry.rows.nrows hops.now rooms.now region.old frontier.old scratch.old }
+        requires { (check_topology topology ≡ Ok tt) × (topology.rows.nrows ≡ topology.rows.ncols) × (besides self.now topology ≡ Ok tt) × (length_check topology.rows.nrows len seeds.old ≡ Ok tt) }
+        ensures value { result ≡ ran_by topology.entry.rows.nrows asked.entry.hops.now asked.entry.rooms.now region.old frontier.old scratch.old }
         ensures renewed { seeds.new ≡ seeds_after (network self.now topology.entry) result seeds.old }
         ensures inside { region.new ≡ region_once_grown (network self.now topology.entry) result seeds.old region.old }
         ensures edge { frontier.new ≡ frontier_once_grown (network self.now topology.entry) result seeds.old frontier.old }
@@ -87,13 +89,12 @@ impl Growing for Plain {
         topology: AbtmDualTopology,
         len: usize,
         seeds: &mut [u64],
-        hops: &[u64],
-        rooms: &[u64],
+        asked: Asked,
         region: &mut [u64],
         frontier: &mut [u64],
         scratch: &mut [u64],
     ) -> Ran {
-        growths::inner::grow_list(topology, len, seeds, hops, rooms, region, frontier, scratch)
+        growths::inner::grow_list(topology, len, seeds, asked, region, frontier, scratch)
     }
 }
 
@@ -117,8 +118,7 @@ impl Growing for Fields<'_> {
         topology: AbtmDualTopology,
         len: usize,
         seeds: &mut [u64],
-        hops: &[u64],
-        rooms: &[u64],
+        asked: Asked,
         region: &mut [u64],
         frontier: &mut [u64],
         scratch: &mut [u64],
@@ -128,8 +128,7 @@ impl Growing for Fields<'_> {
             self.layout,
             len,
             seeds,
-            hops,
-            rooms,
+            asked,
             region,
             frontier,
             scratch,
@@ -153,7 +152,8 @@ fn check<B: Growing>(
     compared.check_lists(seeds, hops, rooms)
 }
 
-// Lists that are written are no struct, since a clause could not name what each is left with: so each is an argument, and the functions are long.
+// Lists that are written are no struct, since each contract would say besides that the struct's references stay: so each is an argument, and the
+// functions are long.
 fn run<'a, B: Growing>(
     by: &B,
     topology: AbtmDualTopology<'a>,
@@ -173,21 +173,22 @@ fn run<'a, B: Growing>(
     source_indices: &mut [u32],
     out: &mut [f64],
 ) -> Result<GrowthRun, Refusal>
-    ensures value { result ≡ run_answer (check_by (B.besides by.now topology.entry) topology.entry matrix.entry len seeds.old hops.now rooms.now) (ran_by topology.entry.rows.nrows hops.now rooms.now region.old frontier.old scratch.old) (answer_on topology.entry matrix.entry len (region_words (B.network by.now topology.entry) seeds.old (ran_by topology.entry.rows.nrows hops.now rooms.now region.old frontier.old scratch.old).total) global_nodes.old local_row_ptr.old local_col_idx.old source_ptr.old source_indices.old new_values.now out.old) }
-    ensures renewed { seeds.new ≡ leaves (check_by (B.besides by.now topology.entry) topology.entry matrix.entry len seeds.old hops.now rooms.now) (seeds_after (B.network by.now topology.entry) (ran_by topology.entry.rows.nrows hops.now rooms.now region.old frontier.old scratch.old) seeds.old) seeds.old }
-    ensures inside { region.new ≡ leaves (check_by (B.besides by.now topology.entry) topology.entry matrix.entry len seeds.old hops.now rooms.now) (region_once_grown (B.network by.now topology.entry) (ran_by topology.entry.rows.nrows hops.now rooms.now region.old frontier.old scratch.old) seeds.old region.old) region.old }
-    ensures edge { frontier.new ≡ leaves (check_by (B.besides by.now topology.entry) topology.entry matrix.entry len seeds.old hops.now rooms.now) (frontier_once_grown (B.network by.now topology.entry) (ran_by topology.entry.rows.nrows hops.now rooms.now region.old frontier.old scratch.old) seeds.old frontier.old) frontier.old }
-    ensures spent { scratch.new ≡ leaves (check_by (B.besides by.now topology.entry) topology.entry matrix.entry len seeds.old hops.now rooms.now) (scratch_once_grown (B.network by.now topology.entry) (ran_by topology.entry.rows.nrows hops.now rooms.now region.old frontier.old scratch.old) scratch.old) scratch.old }
-    ensures members { global_nodes.new ≡ run_left (check_by (B.besides by.now topology.entry) topology.entry matrix.entry len seeds.old hops.now rooms.now) (ran_by topology.entry.rows.nrows hops.now rooms.now region.old frontier.old scratch.old) (plan_on topology.entry matrix.entry len (region_words (B.network by.now topology.entry) seeds.old (ran_by topology.entry.rows.nrows hops.now rooms.now region.old frontier.old scratch.old).total) global_nodes.old local_row_ptr.old local_col_idx.old source_ptr.old source_indices.old).nodes global_nodes.old }
-    ensures pointers { local_row_ptr.new ≡ run_left (check_by (B.besides by.now topology.entry) topology.entry matrix.entry len seeds.old hops.now rooms.now) (ran_by topology.entry.rows.nrows hops.now rooms.now region.old frontier.old scratch.old) (plan_on topology.entry matrix.entry len (region_words (B.network by.now topology.entry) seeds.old (ran_by topology.entry.rows.nrows hops.now rooms.now region.old frontier.old scratch.old).total) global_nodes.old local_row_ptr.old local_col_idx.old source_ptr.old source_indices.old).ptr local_row_ptr.old }
-    ensures columns { local_col_idx.new ≡ run_left (check_by (B.besides by.now topology.entry) topology.entry matrix.entry len seeds.old hops.now rooms.now) (ran_by topology.entry.rows.nrows hops.now rooms.now region.old frontier.old scratch.old) (plan_on topology.entry matrix.entry len (region_words (B.network by.now topology.entry) seeds.old (ran_by topology.entry.rows.nrows hops.now rooms.now region.old frontier.old scratch.old).total) global_nodes.old local_row_ptr.old local_col_idx.old source_ptr.old source_indices.old).columns local_col_idx.old }
-    ensures starts { source_ptr.new ≡ run_left (check_by (B.besides by.now topology.entry) topology.entry matrix.entry len seeds.old hops.now rooms.now) (ran_by topology.entry.rows.nrows hops.now rooms.now region.old frontier.old scratch.old) (plan_on topology.entry matrix.entry len (region_words (B.network by.now topology.entry) seeds.old (ran_by topology.entry.rows.nrows hops.now rooms.now region.old frontier.old scratch.old).total) global_nodes.old local_row_ptr.old local_col_idx.old source_ptr.old source_indices.old).source_ptr source_ptr.old }
-    ensures sources { source_indices.new ≡ run_left (check_by (B.besides by.now topology.entry) topology.entry matrix.entry len seeds.old hops.now rooms.now) (ran_by topology.entry.rows.nrows hops.now rooms.now region.old frontier.old scratch.old) (plan_on topology.entry matrix.entry len (region_words (B.network by.now topology.entry) seeds.old (ran_by topology.entry.rows.nrows hops.now rooms.now region.old frontier.old scratch.old).total) global_nodes.old local_row_ptr.old local_col_idx.old source_ptr.old source_indices.old).sources source_indices.old }
-    ensures filled { out.new ≡ run_left (check_by (B.besides by.now topology.entry) topology.entry matrix.entry len seeds.old hops.now rooms.now) (ran_by topology.entry.rows.nrows hops.now rooms.now region.old frontier.old scratch.old) (values_on topology.entry matrix.entry len (region_words (B.network by.now topology.entry) seeds.old (ran_by topology.entry.rows.nrows hops.now rooms.now region.old frontier.old scratch.old).total) global_nodes.old local_row_ptr.old local_col_idx.old source_ptr.old source_indices.old new_values.now out.old) out.old }
+    ensures value { result ≡ (run_by (B.besides by.now topology.entry) (B.network by.now topology.entry) topology.entry matrix.entry len seeds.old hops.now rooms.now new_values.now region.old frontier.old scratch.old global_nodes.old local_row_ptr.old local_col_idx.old source_ptr.old source_indices.old out.old).answer }
+    ensures renewed { seeds.new ≡ (run_by (B.besides by.now topology.entry) (B.network by.now topology.entry) topology.entry matrix.entry len seeds.old hops.now rooms.now new_values.now region.old frontier.old scratch.old global_nodes.old local_row_ptr.old local_col_idx.old source_ptr.old source_indices.old out.old).seeds }
+    ensures inside { region.new ≡ (run_by (B.besides by.now topology.entry) (B.network by.now topology.entry) topology.entry matrix.entry len seeds.old hops.now rooms.now new_values.now region.old frontier.old scratch.old global_nodes.old local_row_ptr.old local_col_idx.old source_ptr.old source_indices.old out.old).region }
+    ensures edge { frontier.new ≡ (run_by (B.besides by.now topology.entry) (B.network by.now topology.entry) topology.entry matrix.entry len seeds.old hops.now rooms.now new_values.now region.old frontier.old scratch.old global_nodes.old local_row_ptr.old local_col_idx.old source_ptr.old source_indices.old out.old).frontier }
+    ensures spent { scratch.new ≡ (run_by (B.besides by.now topology.entry) (B.network by.now topology.entry) topology.entry matrix.entry len seeds.old hops.now rooms.now new_values.now region.old frontier.old scratch.old global_nodes.old local_row_ptr.old local_col_idx.old source_ptr.old source_indices.old out.old).scratch }
+    ensures members { global_nodes.new ≡ (run_by (B.besides by.now topology.entry) (B.network by.now topology.entry) topology.entry matrix.entry len seeds.old hops.now rooms.now new_values.now region.old frontier.old scratch.old global_nodes.old local_row_ptr.old local_col_idx.old source_ptr.old source_indices.old out.old).nodes }
+    ensures pointers { local_row_ptr.new ≡ (run_by (B.besides by.now topology.entry) (B.network by.now topology.entry) topology.entry matrix.entry len seeds.old hops.now rooms.now new_values.now region.old frontier.old scratch.old global_nodes.old local_row_ptr.old local_col_idx.old source_ptr.old source_indices.old out.old).ptr }
+    ensures columns { local_col_idx.new ≡ (run_by (B.besides by.now topology.entry) (B.network by.now topology.entry) topology.entry matrix.entry len seeds.old hops.now rooms.now new_values.now region.old frontier.old scratch.old global_nodes.old local_row_ptr.old local_col_idx.old source_ptr.old source_indices.old out.old).columns }
+    ensures starts { source_ptr.new ≡ (run_by (B.besides by.now topology.entry) (B.network by.now topology.entry) topology.entry matrix.entry len seeds.old hops.now rooms.now new_values.now region.old frontier.old scratch.old global_nodes.old local_row_ptr.old local_col_idx.old source_ptr.old source_indices.old out.old).source_ptr }
+    ensures sources { source_indices.new ≡ (run_by (B.besides by.now topology.entry) (B.network by.now topology.entry) topology.entry matrix.entry len seeds.old hops.now rooms.now new_values.now region.old frontier.old scratch.old global_nodes.old local_row_ptr.old local_col_idx.old source_ptr.old source_indices.old out.old).sources }
+    ensures filled { out.new ≡ (run_by (B.besides by.now topology.entry) (B.network by.now topology.entry) topology.entry matrix.entry len seeds.old hops.now rooms.now new_values.now region.old frontier.old scratch.old global_nodes.old local_row_ptr.old local_col_idx.old source_ptr.old source_indices.old out.old).values }
 {
     let first = DofMask { len, words: seeds };
     check(by, topology, matrix, first, hops, rooms)?;
-    let ran = by.grow(topology, len, seeds, hops, rooms, region, frontier, scratch);
+    let asked = Asked { hops, rooms };
+    let ran = by.grow(topology, len, seeds, asked, region, frontier, scratch);
     let grown = DofMask { len, words: seeds };
     Ok(inner::finish(
         ran,
@@ -204,9 +205,9 @@ fn run<'a, B: Growing>(
     ))
 }
 
-// A list of growths: growth i goes by hops[i], is lent the first rooms[i] words of region, frontier and scratch, as far as they reach, and is seeded with
-// the region of the last accepted one, which `seeds` is left with. Then pattern, plan and gather on that region. What is left is as after one growth by the
-// total of the accepted counts.
+// A list of growths: growth i goes by hops[i], is lent the first rooms[i] words of region, frontier and scratch, as far as they reach, and is seeded
+// with the region of the last accepted one, which `seeds` is left with. Then pattern, plan and gather on that region. What is left is as after one
+// growth by the total of the accepted counts.
 pub fn run_growths<'a>(
     topology: AbtmDualTopology<'a>,
     matrix: Csr32Matrix<'a>,
@@ -225,17 +226,17 @@ pub fn run_growths<'a>(
     source_indices: &mut [u32],
     out: &mut [f64],
 ) -> Result<GrowthRun, Refusal>
-    ensures value { result ≡ run_answer (check_run topology.entry matrix.entry len seeds.old hops.now rooms.now) (ran_by topology.entry.rows.nrows hops.now rooms.now region.old frontier.old scratch.old) (answer_on topology.entry matrix.entry len (region_words (plain topology.entry) seeds.old (ran_by topology.entry.rows.nrows hops.now rooms.now region.old frontier.old scratch.old).total) global_nodes.old local_row_ptr.old local_col_idx.old source_ptr.old source_indices.old new_values.now out.old) }
-    ensures renewed { seeds.new ≡ leaves (check_run topology.entry matrix.entry len seeds.old hops.now rooms.now) (seeds_after (plain topology.entry) (ran_by topology.entry.rows.nrows hops.now rooms.now region.old frontier.old scratch.old) seeds.old) seeds.old }
-    ensures inside { region.new ≡ leaves (check_run topology.entry matrix.entry len seeds.old hops.now rooms.now) (region_once_grown (plain topology.entry) (ran_by topology.entry.rows.nrows hops.now rooms.now region.old frontier.old scratch.old) seeds.old region.old) region.old }
-    ensures edge { frontier.new ≡ leaves (check_run topology.entry matrix.entry len seeds.old hops.now rooms.now) (frontier_once_grown (plain topology.entry) (ran_by topology.entry.rows.nrows hops.now rooms.now region.old frontier.old scratch.old) seeds.old frontier.old) frontier.old }
-    ensures spent { scratch.new ≡ leaves (check_run topology.entry matrix.entry len seeds.old hops.now rooms.now) (scratch_once_grown (plain topology.entry) (ran_by topology.entry.rows.nrows hops.now rooms.now region.old frontier.old scratch.old) scratch.old) scratch.old }
-    ensures members { global_nodes.new ≡ run_left (check_run topology.entry matrix.entry len seeds.old hops.now rooms.now) (ran_by topology.entry.rows.nrows hops.now rooms.now region.old frontier.old scratch.old) (plan_on topology.entry matrix.entry len (region_words (plain topology.entry) seeds.old (ran_by topology.entry.rows.nrows hops.now rooms.now region.old frontier.old scratch.old).total) global_nodes.old local_row_ptr.old local_col_idx.old source_ptr.old source_indices.old).nodes global_nodes.old }
-    ensures pointers { local_row_ptr.new ≡ run_left (check_run topology.entry matrix.entry len seeds.old hops.now rooms.now) (ran_by topology.entry.rows.nrows hops.now rooms.now region.old frontier.old scratch.old) (plan_on topology.entry matrix.entry len (region_words (plain topology.entry) seeds.old (ran_by topology.entry.rows.nrows hops.now rooms.now region.old frontier.old scratch.old).total) global_nodes.old local_row_ptr.old local_col_idx.old source_ptr.old source_indices.old).ptr local_row_ptr.old }
-    ensures columns { local_col_idx.new ≡ run_left (check_run topology.entry matrix.entry len seeds.old hops.now rooms.now) (ran_by topology.entry.rows.nrows hops.now rooms.now region.old frontier.old scratch.old) (plan_on topology.entry matrix.entry len (region_words (plain topology.entry) seeds.old (ran_by topology.entry.rows.nrows hops.now rooms.now region.old frontier.old scratch.old).total) global_nodes.old local_row_ptr.old local_col_idx.old source_ptr.old source_indices.old).columns local_col_idx.old }
-    ensures starts { source_ptr.new ≡ run_left (check_run topology.entry matrix.entry len seeds.old hops.now rooms.now) (ran_by topology.entry.rows.nrows hops.now rooms.now region.old frontier.old scratch.old) (plan_on topology.entry matrix.entry len (region_words (plain topology.entry) seeds.old (ran_by topology.entry.rows.nrows hops.now rooms.now region.old frontier.old scratch.old).total) global_nodes.old local_row_ptr.old local_col_idx.old source_ptr.old source_indices.old).source_ptr source_ptr.old }
-    ensures sources { source_indices.new ≡ run_left (check_run topology.entry matrix.entry len seeds.old hops.now rooms.now) (ran_by topology.entry.rows.nrows hops.now rooms.now region.old frontier.old scratch.old) (plan_on topology.entry matrix.entry len (region_words (plain topology.entry) seeds.old (ran_by topology.entry.rows.nrows hops.now rooms.now region.old frontier.old scratch.old).total) global_nodes.old local_row_ptr.old local_col_idx.old source_ptr.old source_indices.old).sources source_indices.old }
-    ensures filled { out.new ≡ run_left (check_run topology.entry matrix.entry len seeds.old hops.now rooms.now) (ran_by topology.entry.rows.nrows hops.now rooms.now region.old frontier.old scratch.old) (values_on topology.entry matrix.entry len (region_words (plain topology.entry) seeds.old (ran_by topology.entry.rows.nrows hops.now rooms.now region.old frontier.old scratch.old).total) global_nodes.old local_row_ptr.old local_col_idx.old source_ptr.old source_indices.old new_values.now out.old) out.old }
+    ensures value { result ≡ (plain_run topology.entry matrix.entry len seeds.old hops.now rooms.now new_values.now region.old frontier.old scratch.old global_nodes.old local_row_ptr.old local_col_idx.old source_ptr.old source_indices.old out.old).answer }
+    ensures renewed { seeds.new ≡ (plain_run topology.entry matrix.entry len seeds.old hops.now rooms.now new_values.now region.old frontier.old scratch.old global_nodes.old local_row_ptr.old local_col_idx.old source_ptr.old source_indices.old out.old).seeds }
+    ensures inside { region.new ≡ (plain_run topology.entry matrix.entry len seeds.old hops.now rooms.now new_values.now region.old frontier.old scratch.old global_nodes.old local_row_ptr.old local_col_idx.old source_ptr.old source_indices.old out.old).region }
+    ensures edge { frontier.new ≡ (plain_run topology.entry matrix.entry len seeds.old hops.now rooms.now new_values.now region.old frontier.old scratch.old global_nodes.old local_row_ptr.old local_col_idx.old source_ptr.old source_indices.old out.old).frontier }
+    ensures spent { scratch.new ≡ (plain_run topology.entry matrix.entry len seeds.old hops.now rooms.now new_values.now region.old frontier.old scratch.old global_nodes.old local_row_ptr.old local_col_idx.old source_ptr.old source_indices.old out.old).scratch }
+    ensures members { global_nodes.new ≡ (plain_run topology.entry matrix.entry len seeds.old hops.now rooms.now new_values.now region.old frontier.old scratch.old global_nodes.old local_row_ptr.old local_col_idx.old source_ptr.old source_indices.old out.old).nodes }
+    ensures pointers { local_row_ptr.new ≡ (plain_run topology.entry matrix.entry len seeds.old hops.now rooms.now new_values.now region.old frontier.old scratch.old global_nodes.old local_row_ptr.old local_col_idx.old source_ptr.old source_indices.old out.old).ptr }
+    ensures columns { local_col_idx.new ≡ (plain_run topology.entry matrix.entry len seeds.old hops.now rooms.now new_values.now region.old frontier.old scratch.old global_nodes.old local_row_ptr.old local_col_idx.old source_ptr.old source_indices.old out.old).columns }
+    ensures starts { source_ptr.new ≡ (plain_run topology.entry matrix.entry len seeds.old hops.now rooms.now new_values.now region.old frontier.old scratch.old global_nodes.old local_row_ptr.old local_col_idx.old source_ptr.old source_indices.old out.old).source_ptr }
+    ensures sources { source_indices.new ≡ (plain_run topology.entry matrix.entry len seeds.old hops.now rooms.now new_values.now region.old frontier.old scratch.old global_nodes.old local_row_ptr.old local_col_idx.old source_ptr.old source_indices.old out.old).sources }
+    ensures filled { out.new ≡ (plain_run topology.entry matrix.entry len seeds.old hops.now rooms.now new_values.now region.old frontier.old scratch.old global_nodes.old local_row_ptr.old local_col_idx.old source_ptr.old source_indices.old out.old).values }
 {
     run(
         &Plain,
@@ -278,17 +279,17 @@ pub fn run_field_growths<'a>(
     source_indices: &mut [u32],
     out: &mut [f64],
 ) -> Result<GrowthRun, Refusal>
-    ensures value { result ≡ run_answer (check_field_run topology.entry matrix.entry layout.entry len seeds.old hops.now rooms.now) (ran_by topology.entry.rows.nrows hops.now rooms.now region.old frontier.old scratch.old) (answer_on topology.entry matrix.entry len (region_words (blocked topology.entry layout.entry) seeds.old (ran_by topology.entry.rows.nrows hops.now rooms.now region.old frontier.old scratch.old).total) global_nodes.old local_row_ptr.old local_col_idx.old source_ptr.old source_indices.old new_values.now out.old) }
-    ensures renewed { seeds.new ≡ leaves (check_field_run topology.entry matrix.entry layout.entry len seeds.old hops.now rooms.now) (seeds_after (blocked topology.entry layout.entry) (ran_by topology.entry.rows.nrows hops.now rooms.now region.old frontier.old scratch.old) seeds.old) seeds.old }
-    ensures inside { region.new ≡ leaves (check_field_run topology.entry matrix.entry layout.entry len seeds.old hops.now rooms.now) (region_once_grown (blocked topology.entry layout.entry) (ran_by topology.entry.rows.nrows hops.now rooms.now region.old frontier.old scratch.old) seeds.old region.old) region.old }
-    ensures edge { frontier.new ≡ leaves (check_field_run topology.entry matrix.entry layout.entry len seeds.old hops.now rooms.now) (frontier_once_grown (blocked topology.entry layout.entry) (ran_by topology.entry.rows.nrows hops.now rooms.now region.old frontier.old scratch.old) seeds.old frontier.old) frontier.old }
-    ensures spent { scratch.new ≡ leaves (check_field_run topology.entry matrix.entry layout.entry len seeds.old hops.now rooms.now) (scratch_once_grown (blocked topology.entry layout.entry) (ran_by topology.entry.rows.nrows hops.now rooms.now region.old frontier.old scratch.old) scratch.old) scratch.old }
-    ensures members { global_nodes.new ≡ run_left (check_field_run topology.entry matrix.entry layout.entry len seeds.old hops.now rooms.now) (ran_by topology.entry.rows.nrows hops.now rooms.now region.old frontier.old scratch.old) (plan_on topology.entry matrix.entry len (region_words (blocked topology.entry layout.entry) seeds.old (ran_by topology.entry.rows.nrows hops.now rooms.now region.old frontier.old scratch.old).total) global_nodes.old local_row_ptr.old local_col_idx.old source_ptr.old source_indices.old).nodes global_nodes.old }
-    ensures pointers { local_row_ptr.new ≡ run_left (check_field_run topology.entry matrix.entry layout.entry len seeds.old hops.now rooms.now) (ran_by topology.entry.rows.nrows hops.now rooms.now region.old frontier.old scratch.old) (plan_on topology.entry matrix.entry len (region_words (blocked topology.entry layout.entry) seeds.old (ran_by topology.entry.rows.nrows hops.now rooms.now region.old frontier.old scratch.old).total) global_nodes.old local_row_ptr.old local_col_idx.old source_ptr.old source_indices.old).ptr local_row_ptr.old }
-    ensures columns { local_col_idx.new ≡ run_left (check_field_run topology.entry matrix.entry layout.entry len seeds.old hops.now rooms.now) (ran_by topology.entry.rows.nrows hops.now rooms.now region.old frontier.old scratch.old) (plan_on topology.entry matrix.entry len (region_words (blocked topology.entry layout.entry) seeds.old (ran_by topology.entry.rows.nrows hops.now rooms.now region.old frontier.old scratch.old).total) global_nodes.old local_row_ptr.old local_col_idx.old source_ptr.old source_indices.old).columns local_col_idx.old }
-    ensures starts { source_ptr.new ≡ run_left (check_field_run topology.entry matrix.entry layout.entry len seeds.old hops.now rooms.now) (ran_by topology.entry.rows.nrows hops.now rooms.now region.old frontier.old scratch.old) (plan_on topology.entry matrix.entry len (region_words (blocked topology.entry layout.entry) seeds.old (ran_by topology.entry.rows.nrows hops.now rooms.now region.old frontier.old scratch.old).total) global_nodes.old local_row_ptr.old local_col_idx.old source_ptr.old source_indices.old).source_ptr source_ptr.old }
-    ensures sources { source_indices.new ≡ run_left (check_field_run topology.entry matrix.entry layout.entry len seeds.old hops.now rooms.now) (ran_by topology.entry.rows.nrows hops.now rooms.now region.old frontier.old scratch.old) (plan_on topology.entry matrix.entry len (region_words (blocked topology.entry layout.entry) seeds.old (ran_by topology.entry.rows.nrows hops.now rooms.now region.old frontier.old scratch.old).total) global_nodes.old local_row_ptr.old local_col_idx.old source_ptr.old source_indices.old).sources source_indices.old }
-    ensures filled { out.new ≡ run_left (check_field_run topology.entry matrix.entry layout.entry len seeds.old hops.now rooms.now) (ran_by topology.entry.rows.nrows hops.now rooms.now region.old frontier.old scratch.old) (values_on topology.entry matrix.entry len (region_words (blocked topology.entry layout.entry) seeds.old (ran_by topology.entry.rows.nrows hops.now rooms.now region.old frontier.old scratch.old).total) global_nodes.old local_row_ptr.old local_col_idx.old source_ptr.old source_indices.old new_values.now out.old) out.old }
+    ensures value { result ≡ (field_run topology.entry matrix.entry layout.entry len seeds.old hops.now rooms.now new_values.now region.old frontier.old scratch.old global_nodes.old local_row_ptr.old local_col_idx.old source_ptr.old source_indices.old out.old).answer }
+    ensures renewed { seeds.new ≡ (field_run topology.entry matrix.entry layout.entry len seeds.old hops.now rooms.now new_values.now region.old frontier.old scratch.old global_nodes.old local_row_ptr.old local_col_idx.old source_ptr.old source_indices.old out.old).seeds }
+    ensures inside { region.new ≡ (field_run topology.entry matrix.entry layout.entry len seeds.old hops.now rooms.now new_values.now region.old frontier.old scratch.old global_nodes.old local_row_ptr.old local_col_idx.old source_ptr.old source_indices.old out.old).region }
+    ensures edge { frontier.new ≡ (field_run topology.entry matrix.entry layout.entry len seeds.old hops.now rooms.now new_values.now region.old frontier.old scratch.old global_nodes.old local_row_ptr.old local_col_idx.old source_ptr.old source_indices.old out.old).frontier }
+    ensures spent { scratch.new ≡ (field_run topology.entry matrix.entry layout.entry len seeds.old hops.now rooms.now new_values.now region.old frontier.old scratch.old global_nodes.old local_row_ptr.old local_col_idx.old source_ptr.old source_indices.old out.old).scratch }
+    ensures members { global_nodes.new ≡ (field_run topology.entry matrix.entry layout.entry len seeds.old hops.now rooms.now new_values.now region.old frontier.old scratch.old global_nodes.old local_row_ptr.old local_col_idx.old source_ptr.old source_indices.old out.old).nodes }
+    ensures pointers { local_row_ptr.new ≡ (field_run topology.entry matrix.entry layout.entry len seeds.old hops.now rooms.now new_values.now region.old frontier.old scratch.old global_nodes.old local_row_ptr.old local_col_idx.old source_ptr.old source_indices.old out.old).ptr }
+    ensures columns { local_col_idx.new ≡ (field_run topology.entry matrix.entry layout.entry len seeds.old hops.now rooms.now new_values.now region.old frontier.old scratch.old global_nodes.old local_row_ptr.old local_col_idx.old source_ptr.old source_indices.old out.old).columns }
+    ensures starts { source_ptr.new ≡ (field_run topology.entry matrix.entry layout.entry len seeds.old hops.now rooms.now new_values.now region.old frontier.old scratch.old global_nodes.old local_row_ptr.old local_col_idx.old source_ptr.old source_indices.old out.old).source_ptr }
+    ensures sources { source_indices.new ≡ (field_run topology.entry matrix.entry layout.entry len seeds.old hops.now rooms.now new_values.now region.old frontier.old scratch.old global_nodes.old local_row_ptr.old local_col_idx.old source_ptr.old source_indices.old out.old).sources }
+    ensures filled { out.new ≡ (field_run topology.entry matrix.entry layout.entry len seeds.old hops.now rooms.now new_values.now region.old frontier.old scratch.old global_nodes.old local_row_ptr.old local_col_idx.old source_ptr.old source_indices.old out.old).values }
 {
     run(
         &Fields { layout },

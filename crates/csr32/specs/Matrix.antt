@@ -1,4 +1,4 @@
--- The check of a matrix, refusals 1 to 8 of document 01 in order, and the pairs that a matrix stores.
+-- The check of a matrix, refusals 1 to 8 in order, and the pairs that a matrix stores.
 use Rattle.std.specs.Prelude.{◌≡◌, ℕ, ◌+◌, ◌≤◌, ◌<◌, Bool, true, false, List, length, get_or, leb, eqb, Float}
 use Rattle.base.specs.Checks.{Check}
 use Rattle.base.specs.declared.Refusal.TheVariants.{OverLimit, RowPtrLength, EntryLengths, RowPtrStart, RowPtrEnd, RowPtrFalls, ColumnOutside, NotFinite}

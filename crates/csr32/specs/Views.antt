@@ -1,10 +1,10 @@
--- What document 01 says of a matrix, of one that is lent and of one that was accepted.
--- `x_check` says what is refused, of numbers and lists as document 01 names them; `check_x` says the same of the struct that they are lent in.
-use Rattle.std.specs.Prelude.{◌≡◌, Bool, ℕ}
+-- What is said of a matrix, of one that is lent and of one that was accepted: `check_x` is `x_check` of the struct in the place of its numbers and
+-- lists.
+use Rattle.std.specs.Prelude.{◌≡◌, Bool, List, ℕ}
 use Rattle.base.specs.Checks.{Check}
 use Rattle.csr32.specs.declared.Csr32Matrix.{Csr32Matrix}
 use Rattle.csr32.specs.declared.inner.Matrix.{Matrix}
-use Rattle.csr32.specs.Matrix.{matrix_check, stored}
+use Rattle.csr32.specs.Matrix.{matrix_check, row_of, stored}
 
 -- refusals 1 to 8
 abbrev pub check_matrix : Csr32Matrix → Check
@@ -16,6 +16,10 @@ stores m = stored m.row_ptr.now m.col_idx.now
 
 abbrev pub entries : Matrix → ℕ → ℕ → Bool
 entries m = stored m.row_ptr.now m.col_idx.now
+
+-- the columns of row r's entries, in stored order
+abbrev pub columns_of_row : Matrix → ℕ → List ℕ
+columns_of_row m = row_of m.row_ptr.now m.col_idx.now
 
 -- the lent matrix as it was accepted
 abbrev pub AcceptedFrom : Csr32Matrix → Matrix → Type 0

@@ -1,5 +1,5 @@
 // A matrix that was accepted, for callers that have checked: no part of the API.
-ghost use Rattle.std.specs.Prelude.{◌≡◌, Err, IfOk, IfErr};
+ghost use Rattle.std.specs.Prelude.{◌≡◌, ◌<◌, Err, IfOk, IfErr};
 ghost use Rattle.csr32.specs.Matrix.{IsMatrix};
 
 use crate::Csr32Matrix;
@@ -29,5 +29,18 @@ impl<'a> Csr32Matrix<'a> {
             row_ptr: self.row_ptr,
             col_idx: self.col_idx,
         })
+    }
+}
+
+impl<'a> Matrix<'a> {
+    ghost use Rattle.csr32.specs.Views.{columns_of_row};
+
+    // The columns of a row's entries, in stored order.
+    #[tactic(auto, using(base::proofs::Lists::part_slice))]
+    pub fn row_columns(self, row: usize) -> &'a [u32]
+        requires { row < self.nrows }
+        ensures { result.now ≡ columns_of_row self.entry row }
+    {
+        &self.col_idx[self.row_ptr[row] as usize..self.row_ptr[row + 1] as usize]
     }
 }

@@ -3,7 +3,7 @@
 
 ghost use Rattle.std.specs.Prelude.{◌≡◌};
 ghost use Rattle.base.specs.Lists.{every};
-ghost use Rattle.csr32.specs.Matrix.{finite, matrix_check};
+ghost use Rattle.csr32.specs.Matrix.{finite};
 
 use base::Refusal;
 
@@ -27,7 +27,7 @@ pub fn is_finite(x: f64) -> bool
 }
 
 // No value ends the pass, so that the compiler takes several at a time. An `if` clears the answer: with `all &= ..` the pass took 20 to 40 % more
-// time.
+// time, and a slower call is a defect.
 pub fn all_finite(s: &[f64]) -> bool
     ensures { result ≡ every finite s.now }
 {
@@ -41,21 +41,17 @@ pub fn all_finite(s: &[f64]) -> bool
 }
 
 impl Csr32Matrix<'_> {
-    // A test each, even where the refusal is the same: the law of a chain of checks takes one condition at a time, in the order of the refusals.
+    ghost use Rattle.csr32.specs.Views.{check_matrix};
+
     #[tactic(auto, using(base::proofs::Checks::checks), unfolding(crate::specs::Matrix::matrix_check))]
     pub fn validate(self) -> Result<(), Refusal>
-        ensures { result ≡ matrix_check self.entry.nrows self.entry.ncols self.entry.row_ptr.now self.entry.col_idx.now self.entry.values.now }
+        ensures { result ≡ check_matrix self.entry }
     {
-        if self.nrows > base::SIDE_LIMIT {
-            return Err(Refusal::OverLimit);
-        }
-        if self.ncols > base::SIDE_LIMIT {
-            return Err(Refusal::OverLimit);
-        }
-        if self.col_idx.len() > base::ENTRY_LIMIT {
-            return Err(Refusal::OverLimit);
-        }
-        if self.values.len() > base::ENTRY_LIMIT {
+        if self.nrows > base::SIDE_LIMIT
+            || self.ncols > base::SIDE_LIMIT
+            || self.col_idx.len() > base::ENTRY_LIMIT
+            || self.values.len() > base::ENTRY_LIMIT
+        {
             return Err(Refusal::OverLimit);
         }
         if self.row_ptr.len() != self.nrows + 1 {

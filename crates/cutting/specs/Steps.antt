@@ -1,21 +1,18 @@
 -- What the steps of a prepared region hand on to one another; no caller of the API needs it.
-use Rattle.std.specs.Prelude.{Bool, List, ℕ, ◌≤◌, ◌<◌, length}
+use Rattle.std.specs.Prelude.{Bool, List, ℕ, ◌≤◌, length}
 use Rattle.csr32.specs.Matrix.{stored}
 use Rattle.mask.specs.Mask.{words_needed}
 use Rattle.pattern.specs.Pattern.{stats_of_pattern}
 use Rattle.numeric_plan.specs.Plan.{plan_stats}
+use Rattle.numeric_plan.specs.Steps.{ListsFit}
 use Rattle.field_region.specs.Growth.{field_stats}
 use Rattle.cutting.specs.Cut.{network_of, region_of, lists_of}
 use Rattle.cutting.specs.declared.LocalStats.{LocalStats}
 use Rattle.cutting.specs.declared.RegionCut.{RegionCut}
 
--- the lists of pattern and plan reach their needed lengths
-pub record LocalFits (n entries : ℕ) (nodes ptr cols source_ptr sources : List ℕ) : Type 0 where
-  pub members : n ≤ length nodes
-  pub pointers : n < length ptr
-  pub columns : entries ≤ length cols
-  pub source_pointers : entries < length source_ptr
-  pub entry_sources : entries ≤ length sources
+-- the lists of pattern and plan reach the lengths that a region needs at most
+abbrev pub LocalFits : ℕ → ℕ → List ℕ → List ℕ → List ℕ → List ℕ → List ℕ → Type 0
+LocalFits n entries nodes ptr cols source_ptr sources = ListsFit n entries entries nodes ptr cols source_ptr sources
 
 -- and so do the three masks
 pub record MasksFit (n : ℕ) (region frontier scratch : List ℕ) : Type 0 where

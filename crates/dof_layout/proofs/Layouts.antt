@@ -13,7 +13,7 @@ use native.Mathlib.Numerals.{add-one}
 use borrow.Author.Tests.{eq-eqb, ne_eqb, le-leb, lt-leb, leb-true, eqb-false, not-true}
 use lib.Dec.{T, leb, ltb, eqb, leb→le, ltb→lt, le→leb, lt→ltb}
 use lib.ListN.{length, get_or}
-use lib.Seq.{ext_get_or}
+use lib.Seq.{ext_get_or, get_or-take}
 use Rattle.base.specs.Checks.{side_limit}
 use Rattle.base.specs.Lists.{same_list}
 use Rattle.base.specs.Sets.{any_below}
@@ -55,7 +55,7 @@ module _ (components : List ℕ) where
   offset_at b h = get_or-list_from (start_of components) (suc (length components)) 0 b 0 (omega arith) ∙ ap (start_of components) (zero-add b)
 
   -- what a loop over the totals needs
-  pub ruleset totals = (start-zero, start-next, start_within, offsets-length, offset_at, other-list)
+  pub ruleset totals = (start-zero, start-next, start_within, offsets-length, offset_at, other-list, get_or-take)
 
   -- a list of that length with those totals
   pub offsets_are : (l : List ℕ) → length l ≡ suc (length components) → ((b : ℕ) → b ≤ length components → get_or l b 0 ≡ start_of components b) → l ≡ offsets_of components
@@ -196,5 +196,5 @@ filled-of kinds ids fields components m b h = m.filled b (omega (arith, m.compon
 
 pub ruleset views = (filled-of)
 
--- the last offset
-pub ruleset last = (total-is, offsets-count)
+-- an offset
+pub ruleset starts = (total-at, offsets-count, start-mono)

@@ -1,4 +1,4 @@
-// The checks of the blocks: 14, 11, then block by block 17, 15, 16, 1.
+// The checks of the blocks: that there are some, the lengths of their lists, then block by block its kind, its size, its key and the total.
 ghost use Rattle.std.specs.Prelude.{◌≡◌, ◌+◌, ◌<◌, ◌≤◌, length};
 ghost use Rattle.base.specs.Checks.{checks_below, side_limit};
 ghost use Rattle.dof_layout.specs.Layout.{is_kind_code, block_check};
@@ -15,7 +15,8 @@ fn is_kind(kind: u8) -> bool
     DofEntityKind::try_from(kind as u32).is_ok()
 }
 
-// Up to which block twins are searched next. It grows with what is checked, so that an early refusal costs little.
+// Up to which block twins are searched next. It grows with what is checked, so that an early refusal costs little. No equation: its caller needs the
+// bounds alone, and no promise depends on how far a search goes.
 fn reach_from(b: usize, count: usize) -> usize
     requires { (b < count) × (b ≤ side_limit) }
     ensures { (b < result) × (result ≤ count) × (result ≤ side_limit + 1) }
@@ -66,15 +67,9 @@ impl FieldBlocks<'_> {
         if count == 0 {
             return Err(Refusal::NoBlock);
         }
-        if self.entity_ids.len() != count {
-            return Err(Refusal::wrong_length(count, self.entity_ids.len()));
-        }
-        if self.field_ids.len() != count {
-            return Err(Refusal::wrong_length(count, self.field_ids.len()));
-        }
-        if self.components.len() != count {
-            return Err(Refusal::wrong_length(count, self.components.len()));
-        }
+        base::must_be(count, self.entity_ids.len())?;
+        base::must_be(count, self.field_ids.len())?;
+        base::must_be(count, self.components.len())?;
         check_each(
             Keys {
                 kinds: self.entity_kinds,

@@ -1,4 +1,4 @@
-// The work of a layout's functions, for callers that have checked: no part of the API.
+// Offsets written and checked, a node's block looked up, a field's mask filled, for callers that have checked: no part of the API.
 ghost use Rattle.std.specs.Prelude.{◌≡◌, Err, IfOk, IfErr, ℕ, ◌<◌, ◌≤◌, length, get_or};
 ghost use Rattle.base.specs.Checks.{side_limit};
 ghost use Rattle.base.specs.Lists.{same_list, over};
@@ -20,7 +20,8 @@ pub struct Layout<'a> {
     ghost filled: { (b : ℕ) → b < length components.now → 0 < get_or components.now b 0 },
 }
 
-// The running totals at the front of `out`, which has room for them; answers the total.
+// The running totals at the front of `out`, which has room for them; answers the total. Of two lists one goes by index: what a `zip` leaves in a list
+// that is written has no name that an answer may cite.
 #[tactic(auto, using(crate::proofs::Layouts::totals))]
 pub fn write_offsets(components: &[u32], out: &mut [u64]) -> u64
     requires { (total_of components.now < 18446744073709551616) × (length components.now < length out.old) }
@@ -36,7 +37,9 @@ pub fn write_offsets(components: &[u32], out: &mut [u64]) -> u64
     total
 }
 
-// The offsets are the running totals, their length included.
+// The offsets are the running totals, their length included. Both lists have one length in the loop, so that a turn looks for one end. It is no part
+// of its callers: among what a field's mask needs, the running total would be kept in memory.
+#[inline(never)]
 #[tactic(auto, using(crate::proofs::Layouts::totals))]
 pub fn are_offsets(components: &[u32], offsets: &[u64]) -> bool
     requires { total_of components.now ≤ side_limit }
@@ -46,8 +49,8 @@ pub fn are_offsets(components: &[u32], offsets: &[u64]) -> bool
         return false;
     }
     let mut total: u64 = 0;
-    for (b, size) in components.iter().enumerate() {
-        if offsets[b] != total {
+    for (start, size) in offsets[..components.len()].iter().zip(components) {
+        if *start != total {
             return false;
         }
         total += *size as u64;
@@ -56,7 +59,7 @@ pub fn are_offsets(components: &[u32], offsets: &[u64]) -> bool
 }
 
 // The first block from a on that does not have the field, or the number of blocks, where the last run ends: `position` would count from a, and answer
-// none there.
+// none there. `Run` says it by what stands before and at the end, which is what its caller uses.
 fn run_end(fields: &[u32], field: u32, a: usize) -> usize
     requires { a ≤ length fields.now }
     ensures { Run fields.now field a result }
@@ -91,10 +94,7 @@ impl<'a> FieldAwareDofLayout<'a> {
     {
         let layout = self.accept()?;
         let total = layout.total();
-        if nrows != total {
-            return Err(Refusal::TotalNotSides);
-        }
-        if ncols != total {
+        if nrows != total || ncols != total {
             return Err(Refusal::TotalNotSides);
         }
         Ok(layout)
@@ -102,16 +102,25 @@ impl<'a> FieldAwareDofLayout<'a> {
 }
 
 impl Layout<'_> {
+    // Where block b starts, and the one before it ends.
+    #[inline]
+    #[tactic(auto, using(crate::proofs::Layouts::starts))]
+    pub fn start(self, b: usize) -> usize
+        requires { b ≤ length self.components.now }
+        ensures { result ≡ start_of self.entry.components.now b }
+    {
+        self.offsets[b] as usize
+    }
+
     // How many nodes it has: the last offset.
-    #[tactic(auto, using(crate::proofs::Layouts::last))]
     pub fn total(self) -> usize
         ensures { result ≡ total_of self.entry.components.now }
     {
-        self.offsets[self.components.len()] as usize
+        self.start(self.components.len())
     }
 
-    // The block of node `dof`, which lies between the offsets at `low` and at `high`: the half of them that brackets it. Document 01 halves the
-    // blocks by a call of its own, and so does this.
+    // The block of node `dof`, which lies between the offsets at `low` and at `high`: the half of them that brackets it, by a call of its own: one of
+    // the forms that are asked for (docs/DECISIONS.md, at its end).
     pub fn locate(self, low: usize, high: usize, dof: u64) -> usize
         requires { (low < high) × (high ≤ length self.components.now) × (start_of self.components.now low ≤ dof) × (dof < start_of self.components.now high) }
         ensures { result ≡ block_of self.entry.components.now dof }
@@ -120,15 +129,16 @@ impl Layout<'_> {
             return low;
         }
         let middle = low + (high - low) / 2;
-        if self.offsets[middle] <= dof {
+        if self.start(middle) as u64 <= dof {
             self.locate(middle, high, dof)
         } else {
             self.locate(low, middle, dof)
         }
     }
 
-    // The mask of the nodes whose block has the field, on a list of exactly its words. Neighbouring blocks of the field are one range: the loop jumps
-    // past each.
+    // The mask of the nodes whose block has the field, on a list of exactly its words. Neighbouring blocks of the field are one range, so that whole
+    // words are written, as the project's rule for inner loops has it: block by block, a word would be written for each block in it. The loop jumps
+    // past each range.
     pub fn fill_field(self, fields: &[u32], field: u32, words: &mut [u64])
         requires { (length fields.now ≡ length self.components.now) × (length words.old ≡ words_needed (total_of self.components.now)) }
         ensures { words.new ≡ mask_words (total_of self.entry.components.now) (has_field fields.now self.entry.components.now field) }
@@ -138,8 +148,8 @@ impl Layout<'_> {
         let mut a: usize = 0;
         while a < fields.len() {
             let b = run_end(fields, field, a);
-            let start = self.offsets[a] as usize;
-            let end = self.offsets[b] as usize;
+            let start = self.start(a);
+            let end = self.start(b);
             mask::inner::add_range(total, words, start, end);
             a = b + 1;
         }

@@ -3,7 +3,8 @@
 #![tactic(auto, using(crate::proofs::Layouts::views))]
 
 ghost use Rattle.std.specs.Prelude.{◌≡◌, IfOk};
-ghost use Rattle.dof_layout.specs.Answers.{code_of, kind_answer, new_answer, new_offsets, total_answer, range_answer, locate_answer, field_answer, field_words};
+ghost use Rattle.dof_layout.specs.Answers.{code_of, kind_answer};
+ghost use Rattle.dof_layout.specs.Views.{answer_new, offsets_new};
 
 use base::Refusal;
 
@@ -92,9 +93,10 @@ impl TryFrom<u32> for DofEntityKind {
 }
 
 // The running totals are written to `out`; answers the total.
+#[tactic(auto, using(base::proofs::Checks::checks), unfolding(crate::specs::Answers::new_check))]
 pub fn new(blocks: FieldBlocks, out: &mut [u64]) -> Result<u64, Refusal>
-    ensures value { result ≡ new_answer blocks.entry.entity_kinds.now blocks.entry.entity_ids.now blocks.entry.field_ids.now blocks.entry.components.now out.old }
-    ensures out_after { out.new ≡ new_offsets blocks.entry.entity_kinds.now blocks.entry.entity_ids.now blocks.entry.field_ids.now blocks.entry.components.now out.old }
+    ensures value { result ≡ answer_new blocks.entry out.old }
+    ensures out_after { out.new ≡ offsets_new blocks.entry out.old }
 {
     blocks.check()?;
     if out.len() <= blocks.entity_kinds.len() {
@@ -104,9 +106,9 @@ pub fn new(blocks: FieldBlocks, out: &mut [u64]) -> Result<u64, Refusal>
 }
 
 impl FieldAwareDofLayout<'_> {
-    ghost use Rattle.dof_layout.specs.Views.{check_layout, check_square, SoundLayout};
+    ghost use Rattle.dof_layout.specs.Views.{check_layout, check_square, answer_total, answer_range, answer_locate, answer_field, words_field, SoundLayout};
 
-    // A built layout: its blocks, then 26.
+    // A built layout: its blocks, then its offsets.
     pub fn check(self) -> Result<(), Refusal>
         ensures value { result ≡ check_layout self.entry }
         ensures accepted { IfOk result (λ t. SoundLayout self.entry) }
@@ -119,14 +121,14 @@ impl FieldAwareDofLayout<'_> {
     }
 
     pub fn total_dofs(self) -> Result<u64, Refusal>
-        ensures { result ≡ total_answer self.entry.blocks.entity_kinds.now self.entry.blocks.entity_ids.now self.entry.blocks.field_ids.now self.entry.blocks.components.now self.entry.offsets.now }
+        ensures { result ≡ answer_total self.entry }
     {
         let layout = self.accept()?;
         Ok(layout.total() as u64)
     }
 
     pub fn block_range(self, index: u64) -> Result<Option<Range>, Refusal>
-        ensures { result ≡ range_answer self.entry.blocks.entity_kinds.now self.entry.blocks.entity_ids.now self.entry.blocks.field_ids.now self.entry.blocks.components.now self.entry.offsets.now index }
+        ensures { result ≡ answer_range self.entry index }
     {
         let layout = self.accept()?;
         if index >= layout.components.len() as u64 {
@@ -134,20 +136,20 @@ impl FieldAwareDofLayout<'_> {
         }
         let b = index as usize;
         Ok(Some(Range {
-            start: layout.offsets[b],
-            end: layout.offsets[b + 1],
+            start: layout.start(b) as u64,
+            end: layout.start(b + 1) as u64,
         }))
     }
 
     pub fn locate(self, dof: u64) -> Result<Option<DofAddress>, Refusal>
-        ensures { result ≡ locate_answer self.entry.blocks.entity_kinds.now self.entry.blocks.entity_ids.now self.entry.blocks.field_ids.now self.entry.blocks.components.now self.entry.offsets.now dof }
+        ensures { result ≡ answer_locate self.entry dof }
     {
         let layout = self.accept()?;
         if dof >= layout.total() as u64 {
             return Ok(None);
         }
         let block_index = layout.locate(0, layout.components.len(), dof);
-        let component = (dof - layout.offsets[block_index]) as u32;
+        let component = (dof - layout.start(block_index) as u64) as u32;
         Ok(Some(DofAddress {
             block_index,
             component,
@@ -163,9 +165,10 @@ impl FieldAwareDofLayout<'_> {
 
     // The mask of the nodes whose block has the field; answers its length. The room is tested and the list cut here: a function for both would hand
     // back a part that is written, and each contract would say besides what becomes of the rest.
+    #[tactic(auto, using(base::proofs::Checks::checks, crate::proofs::Layouts::views), unfolding(crate::specs::Answers::field_check))]
     pub fn field_mask(self, field_id: u32, out: &mut [u64]) -> Result<u64, Refusal>
-        ensures value { result ≡ field_answer self.entry.blocks.entity_kinds.now self.entry.blocks.entity_ids.now self.entry.blocks.field_ids.now self.entry.blocks.components.now self.entry.offsets.now out.old }
-        ensures out_after { out.new ≡ field_words self.entry.blocks.entity_kinds.now self.entry.blocks.entity_ids.now self.entry.blocks.field_ids.now self.entry.blocks.components.now self.entry.offsets.now field_id out.old }
+        ensures value { result ≡ answer_field self.entry out.old }
+        ensures out_after { out.new ≡ words_field self.entry field_id out.old }
     {
         let layout = self.accept()?;
         let total = layout.total();

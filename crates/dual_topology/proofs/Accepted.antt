@@ -17,7 +17,7 @@ use Rattle.base.proofs.Checks.{both-passed}
 use Rattle.side.specs.Side.{flip, side_words, side_masks, side_ptr, pair_count, side_holds}
 use Rattle.side.specs.Check.{bits_in, IsSide}
 use Rattle.side.specs.declared.Fault.{Fault}
-use Rattle.side.proofs.Sides.{held-row, held-col, side-holds, side-is, side-count, as_many, pairs-flip}
+use Rattle.side.proofs.Sides.{held-row, held-col, side-holds, side-is, side-count, as_many, pairs-flip, own-words, own-masks, own-ptr}
 use Rattle.side.proofs.Accepted.{limits_passed, limits_pass, sound-only, sound-accepted, fault-not-sound, sound-side, side-sound, side-as}
 use Rattle.agreement.specs.Agreement.{turned}
 use Rattle.agreement.proofs.Turned.{turned_pair, pair-turned}
@@ -139,6 +139,25 @@ module _ (nrows ncols : ℕ) (ptr idx masks ptr2 idx2 masks2 : List ℕ) (m : Is
 
   pub flipped-are : columns ≡ flip rows
   flipped-are = fun_ext (λ c. fun_ext (λ r. columns-are c r))
+
+  -- its six lists are those of the two sides of its own set of pairs
+  pub record Own : Type 0 where
+    pub row_ptr : ptr ≡ side_ptr nrows ncols rows
+    pub row_words : idx ≡ side_words nrows ncols rows
+    pub row_masks : masks ≡ side_masks nrows ncols rows
+    pub column_ptr : ptr2 ≡ side_ptr ncols nrows (flip rows)
+    pub column_words : idx2 ≡ side_words ncols nrows (flip rows)
+    pub column_masks : masks2 ≡ side_masks ncols nrows (flip rows)
+
+  pub own_topology : Own
+  own_topology = record {
+    row_ptr = own-ptr nrows ncols ptr idx masks m.rows;
+    row_words = own-words nrows ncols ptr idx masks m.rows;
+    row_masks = own-masks nrows ncols ptr idx masks m.rows;
+    column_ptr = own-ptr ncols nrows ptr2 idx2 masks2 m.columns ∙ ap (side_ptr ncols nrows) flipped-are;
+    column_words = own-words ncols nrows ptr2 idx2 masks2 m.columns ∙ ap (side_words ncols nrows) flipped-are;
+    column_masks = own-masks ncols nrows ptr2 idx2 masks2 m.columns ∙ ap (side_masks ncols nrows) flipped-are;
+  }
 
 -- and the two sides of a set of pairs within the limits are an accepted topology
 module _ (nrows ncols : ℕ) (s : ℕ → ℕ → Bool) (few_rows : nrows ≤ side_limit) (few_cols : ncols ≤ side_limit)

@@ -3,19 +3,19 @@ use mathlib.Core.Path.{◌≡◌, sym, ap, ap₂, ◌∙◌, subst}
 use Rattle.std.specs.Prelude.{Ok}
 use mathlib.Core.Bool.{Bool}
 use mathlib.Core.List.{List}
-use Prim.Native.Nat.{ℕ, ◌+◌, ◌*◌, ◌≤◌, ◌<◌}
+use Prim.Native.Nat.{ℕ, ◌≤◌, ◌<◌}
 use native.Mathlib.Omega.{arith}
 use borrow.Author.Tests.{ltb-true, leb-true}
 use lib.ListN.{length}
 use Rattle.base.proofs.Checks.{both-passed, passed}
-use Rattle.base.proofs.Lists.{length-list_from}
 use Rattle.csr32.specs.Matrix.{stored, IsMatrix}
 use Rattle.csr32.proofs.Matrix.{stored_row, stored-col, pairs-le}
 use Rattle.base.specs.Checks.{entry_limit}
 use Rattle.side.specs.Side.{flip, side_ptr, side_words, side_masks, pair_count, side_holds}
-use Rattle.side.proofs.Sides.{as_many, side-pairs, side-words-le, pairs-flip}
+use Rattle.side.proofs.Sides.{side-pairs, side-words-le, pairs-flip}
 use Rattle.dual_topology.specs.Check.{topology_check, IsTopology}
 use Rattle.dual_topology.proofs.Accepted.{sides-are, sides-accepted}
+use Rattle.topology.proofs.Bytes.{bytes-are}
 use Rattle.side.proofs.Accepted.{room-passed}
 use Rattle.dual_topology.specs.Answers.{build_room, counts_of, stats_of, counted_stats}
 use Rattle.dual_topology.specs.declared.TopologyCounts.{TopologyCounts}
@@ -63,15 +63,8 @@ module _ (nrows ncols : ℕ) (ptr cols : List ℕ) (m : IsMatrix nrows ncols ptr
       → counted_stats nrows ncols counts ≡ stats_of nrows ncols (side_ptr nrows ncols s) (side_words nrows ncols s) (side_masks nrows ncols s) (pair_count nrows ncols s) (side_ptr ncols nrows (flip s)) (side_words ncols nrows (flip s)) (side_masks ncols nrows (flip s))
   built-stats counts e =
       ap (counted_stats nrows ncols) e
-      ∙ ap₂ (λ (rows cols : ℕ). put rows cols (length (side_words nrows ncols s)) (length (side_words ncols nrows (flip s)))) (sym (length-list_from (λ r. length (side_words r ncols s)) (nrows + 1) 0)) (sym (length-list_from (λ r. length (side_words r nrows (flip s))) (ncols + 1) 0))
-      ∙ ap₂ (put (length (side_ptr nrows ncols s)) (length (side_ptr ncols nrows (flip s)))) (sym (as_many nrows ncols s (λ r c h t. stored-col nrows ncols ptr cols m r c t) nrows)) (sym (as_many ncols nrows (flip s) (λ c r h t. stored_row nrows ncols ptr cols m r c t) ncols))
+      ∙ ap₂ put (bytes-are _ _ _ _ _ built-topology.rows.shape built-topology.rows.shape.as_many) (bytes-are _ _ _ _ _ built-topology.columns.shape built-topology.columns.shape.as_many)
     where
-      put : ℕ → ℕ → ℕ → ℕ → AbtmDualTopologyStats
-      put rows columns masks masks2 =
-          record {
-            nrows = nrows;
-            ncols = ncols;
-            structural_nnz = pair_count nrows ncols s;
-            row_metadata_bytes = 4 * rows + 4 * length (side_words nrows ncols s) + 8 * masks;
-            column_metadata_bytes = 4 * columns + 4 * length (side_words ncols nrows (flip s)) + 8 * masks2;
-          }
+      put : ℕ → ℕ → AbtmDualTopologyStats
+      put bytes bytes2 =
+          record { nrows = nrows; ncols = ncols; structural_nnz = pair_count nrows ncols s; row_metadata_bytes = bytes; column_metadata_bytes = bytes2 }

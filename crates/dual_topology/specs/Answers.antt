@@ -1,6 +1,6 @@
 -- What the calls on a topology answer, and what they leave in the lists that they are lent. A topology is the set of pairs that its rows side
 -- holds; row k of its columns is that set turned round.
-use Rattle.std.specs.Prelude.{Bool, ◌&&◌, List, ℕ, ◌+◌, ◌*◌, leb, ltb, Float, length, replicate}
+use Rattle.std.specs.Prelude.{Bool, ◌&&◌, List, ℕ, ◌+◌, leb, ltb, Float, length, replicate}
 use Rattle.std.specs.Prelude.{Result, Option}
 use Rattle.base.specs.Checks.{Check, answer}
 use Rattle.base.specs.declared.Refusal.{Refusal}
@@ -12,7 +12,7 @@ use Rattle.word.specs.Answers.{entry}
 use Rattle.csr32.specs.Matrix.{matrix_check, stored}
 use Rattle.side.specs.Side.{flip, words_of_row, side_words, pair_count, word_at}
 use Rattle.side.specs.Check.{side_room}
-use Rattle.topology.specs.Statistics.{bytes_of, ratio}
+use Rattle.topology.specs.Statistics.{bytes_of, bytes_counted, ratio}
 use Rattle.dual_topology.specs.declared.TopologyCounts.{TopologyCounts}
 use Rattle.dual_topology.specs.declared.AbtmDualTopologyStats.{AbtmDualTopologyStats}
 use Rattle.dual_topology.specs.declared.RowOf.{RowOf}
@@ -50,15 +50,15 @@ abbrev pub stats_of : ℕ → ℕ → List ℕ → List ℕ → List ℕ → ℕ
 stats_of nrows ncols ptr idx masks pairs ptr2 idx2 masks2 =
     record { nrows = nrows; ncols = ncols; structural_nnz = pairs; row_metadata_bytes = bytes_of ptr idx masks; column_metadata_bytes = bytes_of ptr2 idx2 masks2 }
 
--- the same of a built topology, by its counts: a mask for each word
+-- the same of a built topology, by its counts
 abbrev pub counted_stats : ℕ → ℕ → TopologyCounts → AbtmDualTopologyStats
 counted_stats nrows ncols counts =
     record {
       nrows = nrows;
       ncols = ncols;
       structural_nnz = counts.pairs;
-      row_metadata_bytes = 4 * (nrows + 1) + 4 * counts.row_words + 8 * counts.row_words;
-      column_metadata_bytes = 4 * (ncols + 1) + 4 * counts.column_words + 8 * counts.column_words;
+      row_metadata_bytes = bytes_counted nrows counts.row_words;
+      column_metadata_bytes = bytes_counted ncols counts.column_words;
     }
 
 abbrev pub stats_answer : Check → AbtmDualTopologyStats → Result AbtmDualTopologyStats Refusal

@@ -1,8 +1,8 @@
 -- The check of a topology: refusal 1 for each side, then 9. The faults come in the order rows, columns, agreement. Each side comes with its
 -- own sizes and pair count, so that two can disagree.
 use Rattle.std.specs.Prelude.{◌≡◌, Bool, true, cond, ◌&&◌, List, ℕ, eqb, Result, Ok, Err}
-use Rattle.base.specs.Checks.{Check}
-use Rattle.base.specs.Checks.{◌then◌}
+use Rattle.base.specs.declared.Refusal.TheVariants.{NotSquare}
+use Rattle.base.specs.Checks.{Check, must, ◌then◌}
 use Rattle.side.specs.Side.{side_holds}
 use Rattle.side.specs.Check.{limit_check, fault_check, side_fault, IsSide}
 use Rattle.side.specs.declared.Fault.{Fault}
@@ -30,6 +30,10 @@ topology_check nrows ncols ptr idx masks pairs nrows2 ncols2 ptr2 idx2 masks2 pa
     limit_check nrows ncols idx masks pairs
     then limit_check nrows2 ncols2 idx2 masks2 pairs2
     then fault_check (topology_fault nrows ncols ptr idx masks pairs nrows2 ncols2 ptr2 idx2 masks2 pairs2)
+
+-- a topology that must be square: its own check, then 10
+abbrev pub square_topology : Check → ℕ → ℕ → Check
+square_topology topology nrows ncols = topology then must (eqb nrows ncols) NotSquare
 
 -- an accepted topology: two sides, the second the first turned round
 pub record IsTopology (nrows ncols : ℕ) (ptr idx masks ptr2 idx2 masks2 : List ℕ) : Type 0 where

@@ -1,6 +1,7 @@
--- What document 01 says of a topology that is lent.
+-- What is said of a topology that is lent.
 use Rattle.std.specs.Prelude.{◌≡◌, Result, Ok, Bool, List, ℕ, length}
 use Rattle.base.specs.Checks.{Check}
+use Rattle.base.specs.declared.Refusal.{Refusal}
 use Rattle.csr32.specs.declared.Csr32Matrix.{Csr32Matrix}
 use Rattle.side.specs.declared.inner.RowWords.{RowWords}
 use Rattle.side.specs.declared.Fault.{Fault}
@@ -9,14 +10,19 @@ use Rattle.side.specs.Views.{holds, held, AcceptedFrom as AcceptedSide}
 use Rattle.dual_topology.specs.declared.AbtmDualTopology.{AbtmDualTopology}
 use Rattle.dual_topology.specs.declared.RowOf.{RowOf}
 use Rattle.dual_topology.specs.declared.inner.Topology.{Topology}
-use Rattle.dual_topology.specs.Check.{sides_agree, topology_fault, topology_check, IsTopology}
-use Rattle.dual_topology.specs.Answers.{build_check, row_check, rows_of, width_of, row_set}
+use Rattle.dual_topology.specs.Check.{sides_agree, topology_fault, topology_check, square_topology, IsTopology}
+use Rattle.dual_topology.specs.declared.AbtmDualTopologyStats.{AbtmDualTopologyStats}
+use Rattle.dual_topology.specs.Answers.{build_check, stats_of, stats_answer, row_check, rows_of, width_of, row_set}
 
 -- 1 for each side, then 9
 abbrev pub check_topology : AbtmDualTopology → Check
 check_topology t =
     topology_check t.rows.nrows t.rows.ncols t.rows.row_word_ptr.now t.rows.word_indices.now t.rows.masks.now t.rows.structural_nnz
     t.columns.nrows t.columns.ncols t.columns.row_word_ptr.now t.columns.word_indices.now t.columns.masks.now t.columns.structural_nnz
+
+-- and 10, of one that must be square
+abbrev pub check_square_topology : AbtmDualTopology → Check
+check_square_topology t = square_topology (check_topology t) t.rows.nrows t.rows.ncols
 
 -- its first fault, and whether its sides agree
 abbrev pub fault_of : AbtmDualTopology → Result Unit Fault
@@ -36,6 +42,12 @@ pub record SoundTopology (t : AbtmDualTopology) : Type 0 where
   pub as_columns : t.columns.ncols ≡ t.rows.nrows
   pub as_pairs : t.columns.structural_nnz ≡ t.rows.structural_nnz
   pub counted : t.rows.structural_nnz ≡ bits_in t.rows.masks.now 0 (length t.rows.masks.now)
+
+-- the topology; the bytes of both sides
+abbrev pub answer_stats : AbtmDualTopology → Result AbtmDualTopologyStats Refusal
+answer_stats t =
+    stats_answer (check_topology t)
+    (stats_of t.rows.nrows t.rows.ncols t.rows.row_word_ptr.now t.rows.word_indices.now t.rows.masks.now t.rows.structural_nnz t.columns.row_word_ptr.now t.columns.word_indices.now t.columns.masks.now)
 
 -- ---- a row that is named by side and number
 
@@ -65,3 +77,8 @@ check_build m = build_check m.nrows m.ncols m.row_ptr.now m.col_idx.now m.values
 
 abbrev pub AcceptedFrom : AbtmDualTopology → Topology → Type 0
 AcceptedFrom t a = (AcceptedSide t.rows a.rows) × (AcceptedSide t.columns a.columns)
+
+-- an accepted topology has that many rows and columns
+abbrev pub SizedTopology : ℕ → ℕ → Topology → Type 0
+SizedTopology nrows ncols t =
+    IsTopology nrows ncols t.rows.row_word_ptr.now t.rows.word_indices.now t.rows.masks.now t.columns.row_word_ptr.now t.columns.word_indices.now t.columns.masks.now

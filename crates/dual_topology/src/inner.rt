@@ -1,4 +1,5 @@
-// The work on a topology, for callers that have checked: no part of the API. Lists that are written are handed in one by one, as in `from_csr32`.
+// An accepted topology, the agreement of its sides, building and statistics, for callers that have checked: no part of the API. Lists that are
+// written are handed in one by one, as in `from_csr32`.
 ghost use Rattle.std.specs.Prelude.{◌≡◌, Ok, Err, IfOk, IfErr, cond, ◌+◌, ◌≤◌, ◌<◌, length, replicate};
 ghost use Rattle.base.specs.Checks.{side_limit, entry_limit};
 ghost use Rattle.base.specs.Lists.{over, over_with_zeros};
@@ -45,13 +46,10 @@ impl<'a> AbtmDualTopology<'a> {
     {
         let rows = self.rows;
         let columns = self.columns;
-        if columns.nrows != rows.ncols {
-            return Err(Fault::Disagree);
-        }
-        if columns.ncols != rows.nrows {
-            return Err(Fault::Disagree);
-        }
-        if columns.structural_nnz != rows.structural_nnz {
+        if columns.nrows != rows.ncols
+            || columns.ncols != rows.nrows
+            || columns.structural_nnz != rows.structural_nnz
+        {
             return Err(Fault::Disagree);
         }
         let sides = Sides {
@@ -76,7 +74,9 @@ impl<'a> AbtmDualTopology<'a> {
     }
 }
 
-// Refusal 25 of the eight lists that a building takes. It takes them for their lengths: as numbers of one type these would be mixed up sooner.
+// Whether the eight lists that a building takes are long enough. It takes them for their lengths: as numbers of one type these would be mixed up
+// sooner.
+#[tactic(auto, using(base::proofs::Checks::checks))]
 pub fn check_room(
     nrows: usize,
     ncols: usize,
@@ -100,10 +100,7 @@ pub fn check_room(
         column_word_indices,
         column_masks,
     )?;
-    if ncols >= starts.len() {
-        return Err(Refusal::ListTooShort);
-    }
-    if entries > order.len() {
+    if ncols >= starts.len() || entries > order.len() {
         return Err(Refusal::ListTooShort);
     }
     Ok(())
@@ -193,11 +190,7 @@ pub fn stats(nrows: usize, ncols: usize, counts: TopologyCounts) -> AbtmDualTopo
         nrows: nrows as u32,
         ncols: ncols as u32,
         structural_nnz: counts.pairs as u32,
-        row_metadata_bytes: (4 * (nrows + 1) as u64
-            + 4 * counts.row_words
-            + 8 * counts.row_words) as u32,
-        column_metadata_bytes: (4 * (ncols + 1) as u64
-            + 4 * counts.column_words
-            + 8 * counts.column_words) as u32,
+        row_metadata_bytes: topology::inner::metadata_bytes(nrows, counts.row_words),
+        column_metadata_bytes: topology::inner::metadata_bytes(ncols, counts.column_words),
     }
 }

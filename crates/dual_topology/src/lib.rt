@@ -1,11 +1,11 @@
 // Both sides of a topology, `AbtmDualTopology` of the Rust: the rows, and the columns as rows of the transpose.
-#![tactic(auto)]
+#![tactic(auto, using(base::proofs::Checks::checks))]
 
 ghost use Rattle.std.specs.Prelude.{◌≡◌, Err, IfOk, IfErr, ◌+◌, length};
 ghost use Rattle.csr32.specs.Views.{stores};
 ghost use Rattle.side.specs.Side.{flip};
 ghost use Rattle.side.specs.Built.{built_ptr, built_words, built_masks};
-ghost use Rattle.dual_topology.specs.Answers.{build_answer, scratch, stats_of, stats_answer, total_bytes, bytes_per_nnz, row_words_answer, row_popcount_answer, row_contains_answer, row_rank_answer, row_select_answer, row_word_answer};
+ghost use Rattle.dual_topology.specs.Answers.{build_answer, scratch, total_bytes, bytes_per_nnz, row_words_answer, row_popcount_answer, row_contains_answer, row_rank_answer, row_select_answer, row_word_answer};
 ghost use Rattle.dual_topology.specs.Views.{check_build};
 
 use base::Refusal;
@@ -64,6 +64,7 @@ impl AbtmDualTopologyStats {
 
 // `starts` and `order` are scratch: a number for each column and one, and one for each entry. Lists that are written are handed in one by one:
 // each has an equation, and in a struct behind `&mut` each contract would say besides that the references stay.
+#[tactic(auto, using(base::proofs::Checks::checks), unfolding(crate::specs::Answers::build_check))]
 pub fn from_csr32(
     matrix: Csr32Matrix,
     row_word_ptr: &mut [u32],
@@ -113,8 +114,9 @@ pub fn from_csr32(
 }
 
 impl<'a> AbtmDualTopology<'a> {
-    ghost use Rattle.dual_topology.specs.Views.{check_topology, check_row, row, width, FoundRow, SoundTopology};
+    ghost use Rattle.dual_topology.specs.Views.{check_topology, check_row, answer_stats, row, width, FoundRow, SoundTopology};
 
+    #[tactic(auto, using(base::proofs::Checks::checks), unfolding(crate::specs::Check::topology_check, side::specs::Check::fault_check))]
     pub fn validate(self) -> Result<(), Refusal>
         ensures value { result ≡ check_topology self.entry }
         ensures accepted { IfOk result (λ t. SoundTopology self.entry) }
@@ -126,7 +128,7 @@ impl<'a> AbtmDualTopology<'a> {
     }
 
     pub fn stats(self) -> Result<AbtmDualTopologyStats, Refusal>
-        ensures { result ≡ stats_answer (check_topology self.entry) (stats_of self.entry.rows.nrows self.entry.rows.ncols self.entry.rows.row_word_ptr.now self.entry.rows.word_indices.now self.entry.rows.masks.now self.entry.rows.structural_nnz self.entry.columns.row_word_ptr.now self.entry.columns.word_indices.now self.entry.columns.masks.now) }
+        ensures { result ≡ answer_stats self.entry }
     {
         self.validate()?;
         let counts = TopologyCounts {

@@ -7,7 +7,7 @@ use native.Mathlib.Numerals.{add-one}
 use Rattle.word.proofs.Turns.{some_turn}
 use mathlib.Core.Bool.{Bool, ◌&&◌, ◌||◌}
 use mathlib.Core.List.{List}
-use Prim.Native.Nat.{ℕ, suc, ◌+◌, ◌-◌, ◌*◌, ◌/◌, ◌^◌, ◌≤◌, ◌<◌}
+use Prim.Native.Nat.{ℕ, suc, ◌+◌, ◌*◌, ◌/◌, ◌^◌, ◌≤◌, ◌<◌}
 use native.Mathlib.Omega.{arith}
 use borrow.Author.Tests.{leb-true}
 use lib.Bits.{bit_and, bit_or, and_le_l}
@@ -124,10 +124,10 @@ module _ (components : List ℕ) (p : ℕ → Bool) where
           from i l (inr u) = or_r (closed_to b i) (in_block components b i) (subst (λ (x : ℕ). T (in_block components x i)) u.0 (block-holds components i l).1)
 
       -- a bit of one of its words is set
-      pub closing-word : (w hi lo : ℕ) → hi ≡ word_of (λ i. ltb i end) w → lo ≡ word_of (λ i. ltb i start) w → get_or words w 0 < 2 ^ 64 → bit_and (get_or words w 0) (bit_and hi (2 ^ 64 - 1 - lo)) ≢ 0
+      pub closing-word : (w block : ℕ) → block ≡ word_of (between start end) w → get_or words w 0 < 2 ^ 64 → bit_and (get_or words w 0) block ≢ 0
           → with_range (total_of components) words start end ≡ mask_words (total_of components) (closed_to (b + 1))
-      closing-word w hi lo eh el fits n =
-          let r = some_turn (in_range words start end) w (bit_and (get_or words w 0) (bit_and hi (2 ^ 64 - 1 - lo))) (range-bits words start end w hi lo eh el) (lt_of_le_of_lt (and_le_l (get_or words w 0) (bit_and hi (2 ^ 64 - 1 - lo))) fits) n in
+      closing-word w block eb fits n =
+          let r = some_turn (in_range words start end) w (bit_and (get_or words w 0) block) (range-bits words start end w block eb) (lt_of_le_of_lt (and_le_l (get_or words w 0) block) fits) n in
           closing-take r.0 r.3
 
       -- none is: it is closed as it is
@@ -164,12 +164,11 @@ range-passed words start end next none h n i l t =
     none i (leb→le start i (and_l (leb start i) (ltb i end) r)) (omega (arith, ltb→lt i end (and_r (leb start i) (ltb i end) r))) (and_l (in_mask words i) (between start end i) t)
 
 -- a block within one word is taken by one store
-pub range-one : (len : ℕ) (words : List ℕ) (start end w hi lo : ℕ) → IsMask len words → end ≤ len → w < words_needed len → w ≡ start / 64 → words_needed end ≤ w + 1
-    → hi ≡ word_of (λ i. ltb i end) w → lo ≡ word_of (λ i. ltb i start) w
-    → set words w (bit_or (get_or words w 0) (bit_and hi (2 ^ 64 - 1 - lo))) ≡ with_range len words start end
-range-one len words start end w hi lo m le h ew done eh el =
+pub range-one : (len : ℕ) (words : List ℕ) (start end w block : ℕ) → IsMask len words → end ≤ len → w < words_needed len → w ≡ start / 64 → words_needed end ≤ w + 1
+    → block ≡ word_of (between start end) w → set words w (bit_or (get_or words w 0) block) ≡ with_range len words start end
+range-one len words start end w block m le h ew done eb =
     let e : words ≡ mask_words len (ranged len words start end w) = range_none len words start end m ∙ ap (λ (v : ℕ). mask_words len (ranged len words start end v)) (sym ew) in
-    ap (λ (l : List ℕ). set l w (bit_or (get_or l w 0) (bit_and hi (2 ^ 64 - 1 - lo)))) e ∙ range-turn len words start end w hi lo h le eh el
+    ap (λ (l : List ℕ). set l w (bit_or (get_or l w 0) block)) e ∙ range-turn len words start end w block h le eb
     ∙ range-done len words start end (w + 1) done
 
 -- ---- what acceptance gives

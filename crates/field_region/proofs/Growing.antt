@@ -12,8 +12,8 @@ use Rattle.mask.specs.Mask.{in_mask, mask_words}
 use Rattle.mask.proofs.Masks.{mask-holds, mask-cong}
 use Rattle.dof_layout.specs.Layout.{start_of, total_of, block_of}
 use Rattle.dof_layout.proofs.Layouts.{block-is, in-block, start-suc, start-mono}
-use Rattle.graph.specs.Network.{Network, field_network, holding, closed, block_within, in_region, region_words}
-use Rattle.graph.proofs.Networks.{Whole, hop-start}
+use Rattle.graph.specs.Network.{Network, Whole, field_network, holding, closed, block_within, in_region, region_words}
+use Rattle.graph.proofs.Networks.{hop-start}
 use Rattle.growth.specs.Visits.{grown_by}
 use Rattle.growth.specs.declared.Grown.{Grown}
 use Rattle.field_region.specs.Closure.{closed_words}

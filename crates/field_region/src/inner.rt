@@ -28,9 +28,12 @@ pub struct FieldGraph<'a> {
 }
 
 // The blocks of the mask's nodes are taken whole, in place. The scan of a block stops at its first selected bit; after one that finds none, the
-// blocks that end at or before the next selected node are passed. It takes the layout's two lists: given the struct, a field growth of many hops took
-// three times its time. Document 01 wants nested loops that are left by a label, and so `continue` names it. The passing is one jump to the next
-// member, which no list of members gives while the mask is written.
+// blocks that end at or before the next selected node are passed. It takes the layout's two lists: closing took three times its time while it was
+// handed the layout as a struct. Nested loops left by a label are one of the forms that are asked for (docs/DECISIONS.md, at its end), and so each
+// `continue` names it. The passing is one jump to the next member, which no list of members gives while the mask is written. A block within one word
+// is taken by its bits, which are at hand, and without a call: the speed rule of the project speaks of such inner loops. It is no part of its
+// callers: among what they need, the block's number would be kept in memory, and each block that is passed would wait for it.
+#[inline(never)]
 fn close_in_place(components: &[u32], offsets: &[u64], words: &mut [u64])
     requires { (offsets.now ≡ offsets_of components.now) × (total_of components.now ≤ side_limit) × IsMask (total_of components.now) words.old }
     ensures { words.new ≡ closed_words components.now words.old }
@@ -46,7 +49,7 @@ fn close_in_place(components: &[u32], offsets: &[u64], words: &mut [u64])
         let first = start / AbtmTopologyWord::BITS;
         let stop = mask::inner::words_for(end);
         for w in first..stop {
-            let block = mask::inner::bits_below(end, w) & !mask::inner::bits_below(start, w);
+            let block = mask::inner::bits_between(start, end, w);
             if words[w] & block != 0 {
                 if stop == first + 1 {
                     words[w] |= block;
@@ -77,14 +80,16 @@ fn owned(dof_owners: &[u32], start: usize, end: usize, owner: u32) -> bool
     dof_owners[start + 1..end].iter().all(|x| *x == owner)
 }
 
-// 20 and 21, block by block. By index: of two neighbours that `windows(2)` gives, it would be left to show that they are two.
+// Block by block, that its owner is below the ranks and all its nodes have it. By index: of two neighbours that `windows(2)` gives, it would be left
+// to show that they are two.
+#[tactic(auto, using(crate::proofs::Blocks::blocks))]
 pub fn check_blocks(layout: Layout, dof_owners: &[u32], ranks: u32) -> Result<(), Refusal>
     requires { length dof_owners.now ≡ total_of layout.components.now }
     ensures { result ≡ checks_below (length layout.entry.components.now) (owner_check layout.entry.components.now dof_owners.now ranks) }
 {
     for b in 0..layout.components.len() {
-        let start = layout.offsets[b] as usize;
-        let end = layout.offsets[b + 1] as usize;
+        let start = layout.start(b);
+        let end = layout.start(b + 1);
         let owner = dof_owners[start];
         if owner >= ranks {
             return Err(Refusal::OwnerOutOfRange);
@@ -107,9 +112,7 @@ pub fn check_owned(
     ensures { result ≡ owned_check layout.entry.components.now dof_owners.now ranks room }
 {
     let total = layout.total();
-    if dof_owners.len() != total {
-        return Err(Refusal::wrong_length(total, dof_owners.len()));
-    }
+    base::must_be(total, dof_owners.len())?;
     if ranks == 0 {
         return Err(Refusal::NoRanks);
     }
@@ -121,28 +124,25 @@ pub fn check_owned(
 }
 
 // Each block's first owner at the front of `out`, which has room for them.
+#[tactic(auto, using(crate::proofs::Blocks::blocks))]
 pub fn write_owners(layout: Layout, dof_owners: &[u32], out: &mut [u32])
     requires { (length dof_owners.now ≡ total_of layout.components.now) × (length layout.components.now ≤ length out.old) }
     ensures { out.new ≡ over (owners_of layout.entry.components.now dof_owners.now) out.old }
 {
-    for b in 0..layout.components.len() {
-        out[b] = dof_owners[layout.offsets[b] as usize];
+    let count = layout.components.len();
+    for (b, owner) in out[..count].iter_mut().enumerate() {
+        *owner = dof_owners[layout.start(b)];
     }
 }
 
-// How many blocks the region holds, which holds only whole blocks: those whose first node it holds. A loop:
-// the closure of a filter holds the offsets alone, and its contract cannot say by them that each is a node.
+// How many blocks the region holds, which holds only whole blocks: those whose first node it holds.
 fn count_blocks(layout: Layout, region: Mask) -> u64
     requires { region.len ≡ total_of layout.components.now }
     ensures { result ≡ count_below (length layout.entry.components.now) (λ b. in_mask region.entry.words.now (start_of layout.entry.components.now b)) }
 {
-    let mut count: u64 = 0;
-    for b in 0..layout.components.len() {
-        if region.holds(layout.offsets[b] as usize) {
-            count += 1;
-        }
-    }
-    count
+    (0..layout.components.len())
+        .filter(|b| region.holds(layout.start(*b)))
+        .count() as u64
 }
 
 impl<'a> Hop for FieldGraph<'a> {

@@ -45,6 +45,7 @@ pub struct BlocksGrown {
 
 // Each block with a selected node is taken whole. The room is tested and the list cut here: a function for both would hand back a part that is
 // written, and each contract would say besides what becomes of the rest.
+#[tactic(auto, using(base::proofs::Checks::checks, dof_layout::proofs::Layouts::views), unfolding(crate::specs::Closure::close_check))]
 pub fn close_to_field_blocks(
     layout: FieldAwareDofLayout,
     mask: DofMask,
@@ -64,6 +65,7 @@ pub fn close_to_field_blocks(
 }
 
 // The owner of each block, which all its nodes have.
+#[tactic(auto, using(base::proofs::Checks::checks, dof_layout::proofs::Layouts::views), unfolding(crate::specs::Owners::owners_check))]
 pub fn field_block_owners(
     layout: FieldAwareDofLayout,
     dof_owners: &[u32],
@@ -81,6 +83,7 @@ pub fn field_block_owners(
 
 // The whole blocks within `hops` links of the mask's blocks, and those at exactly so many. The lists take a mask each; `scratch` is left zero. They
 // are written, each with an equation of its own, and so handed in one by one.
+#[tactic(auto, using(base::proofs::Checks::checks, dof_layout::proofs::Layouts::views), unfolding(crate::specs::Growth::field_grow_check))]
 pub fn grow_field_aware_region<'a>(
     topology: AbtmDualTopology<'a>,
     layout: FieldAwareDofLayout<'a>,

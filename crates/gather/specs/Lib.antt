@@ -1,2 +1,3 @@
 pub mod Gather
 pub mod Plan
+pub mod Views

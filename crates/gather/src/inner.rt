@@ -18,8 +18,8 @@ pub struct Plan<'a, 'v> {
 }
 
 impl Plan<'_, '_> {
-    // Whether every pair has one source, from pointers that never fall. All steps are looked at, and none waits for the one before it. `windows(2)` is no
-    // plainer, because the two pointers of a window are read by number too.
+    // Whether every pair has one source, from pointers that never fall. All steps are looked at, and none waits for the one before it. `windows(2)`
+    // is no plainer, because the two pointers of a window are read by number too.
     fn one_each(self) -> bool
         ensures { result ≡ is_one_each self.entry.ptr.now }
     {
@@ -30,8 +30,8 @@ impl Plan<'_, '_> {
         other == 0
     }
 
-    // The sum from 0.0 of one pair's entries: a loop, since the library's sum of floats begins with -0.0. A `fold` is no plainer, because its step is the
-    // loop's and its start would stand beside it.
+    // The sum from 0.0 of one pair's entries: a loop, since the library's sum of floats begins with -0.0. A `fold` is no plainer, because its step is
+    // the loop's and its start would stand beside it.
     fn sum_pair(self, from: usize, to: usize) -> f64
         requires { (from ≤ to) × (to ≤ length self.sources.now) }
         ensures { result ≡ sum_of self.entry.values.now (slice from to self.entry.sources.now) }

@@ -15,12 +15,8 @@ use Rattle.mask.specs.Mask.{in_mask}
 use Rattle.mask.proofs.Masks.{mask-holds, mask-cong}
 use Rattle.dof_layout.proofs.Layouts.{block-holds}
 use Rattle.graph.specs.Distance.{within, exactly, any_at}
-use Rattle.graph.specs.Network.{Network, plain_network, field_network, joined, touched, holding, closed, linked, seeded, in_region, in_frontier, visited, region_words, frontier_words}
+use Rattle.graph.specs.Network.{Network, Whole, plain_network, field_network, joined, touched, holding, closed, linked, seeded, in_region, in_frontier, visited, region_words, frontier_words}
 use Rattle.graph.proofs.Distances.{within-case, step, step-frontier, compose-within, compose-exactly, within-cong, exactly-cong, cap-within, cap-exactly, within-stay, exactly-new, exactly-i, exactly-zero, within-mono, rest-within, any-at-i}
-
--- every node has a block
-pub record Whole (g : Network) : Type 0 where
-  pub has_block : (i : ℕ) → i < g.nodes → g.block i < g.blocks
 
 pub plain-whole : (n : ℕ) (s : ℕ → ℕ → Bool) → Whole (plain_network n s)
 plain-whole n s = record { has_block = λ i h. h }

@@ -14,9 +14,9 @@ use Rattle.mask.specs.Mask.{in_mask, mask_words}
 use Rattle.mask.specs.Answers.{combined, union, and_not_of}
 use Rattle.mask.proofs.Masks.{mask-cong, mask-holds}
 use Rattle.graph.specs.Distance.{exactly, any_at}
-use Rattle.graph.specs.Network.{Network, touched, holding, closed, linked, seeded, in_region, in_frontier, hops_made, region_words, frontier_words}
+use Rattle.graph.specs.Network.{Network, Whole, touched, holding, closed, linked, seeded, in_region, in_frontier, hops_made, region_words, frontier_words}
 use Rattle.graph.proofs.Distances.{any-at-i, any-at-e, ended, Ended, exactly-within}
-use Rattle.graph.proofs.Networks.{Whole, hop-start, hop-start-frontier, hop-region, hop-frontier, reached-node}
+use Rattle.graph.proofs.Networks.{hop-start, hop-start-frontier, hop-region, hop-frontier, reached-node}
 
 module _ (g : Network) (seeds : List ℕ) where
   abbrev Any : ℕ → Bool

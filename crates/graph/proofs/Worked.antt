@@ -11,9 +11,9 @@ use Rattle.word.specs.Bits.{bit_at}
 use Rattle.mask.specs.Mask.{in_mask}
 use Rattle.dof_layout.specs.Layout.{start_of, block_of}
 use Rattle.graph.specs.Distance.{Walk, here, next, Distance, within, exactly, any_at}
-use Rattle.graph.specs.Network.{Network, plain_network, field_network, holding, linked, seeded}
+use Rattle.graph.specs.Network.{Network, Whole, plain_network, field_network, holding, linked, seeded}
 use Rattle.graph.proofs.Distances.{distance-iff, walk-within, within-mono, rest-within}
-use Rattle.graph.proofs.Networks.{Whole, plain-whole, field-whole}
+use Rattle.graph.proofs.Networks.{plain-whole, field-whole}
 
 abbrev first : ℕ → ℕ → Bool
 first i j = eqb i 0 && eqb j 1

@@ -1,5 +1,5 @@
--- Distance in links from a seeded block, over blocks 0, 1, … , B - 1: the walks that document 01 speaks of, and the same as tests that can
--- be computed. `within-iff` and `distance-iff` in proofs/ say that they agree.
+-- Distance in links from a seeded block, over blocks 0, 1, … , B - 1: by walks, as it is said on paper, and the same as tests that can be
+-- computed. `within-iff` and `distance-iff` in proofs/ say that they agree.
 use Rattle.std.specs.Prelude.{Bool, not, cond, ◌&&◌, ◌||◌, ℕ, zero, suc, ◌+◌, ◌≤◌, ◌<◌, min, T}
 use Rattle.base.specs.Sets.{any_below}
 

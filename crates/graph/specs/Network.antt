@@ -1,6 +1,6 @@
--- What is grown on: nodes, the block of each node, and a set of stored pairs. Plain and field growth are two instances. Then document 01's
--- words on growth: linked, seeded, the region, its frontier, what was visited.
-use Rattle.std.specs.Prelude.{Bool, false, ◌&&◌, ◌||◌, List, ℕ, zero, suc, eqb, length}
+-- What is grown on: nodes, the block of each node, and a set of stored pairs. Plain and field growth are two instances. Then the
+-- words that a growth is said by: linked, seeded, the region, its frontier, what was visited.
+use Rattle.std.specs.Prelude.{Bool, false, ◌&&◌, ◌||◌, List, ℕ, zero, suc, ◌<◌, eqb, length}
 use Rattle.base.specs.Sets.{any_below}
 use Rattle.mask.specs.Mask.{in_mask, mask_words}
 use Rattle.dof_layout.specs.Layout.{total_of, block_of}
@@ -11,6 +11,10 @@ pub record Network : Type 0 where
   pub blocks : ℕ
   pub block : ℕ → ℕ
   pub stored : ℕ → ℕ → Bool
+
+-- every node has a block
+pub record Whole (g : Network) : Type 0 where
+  pub has_block : (i : ℕ) → i < g.nodes → g.block i < g.blocks
 
 -- in plain growth each node is a block
 abbrev pub plain_network : ℕ → (ℕ → ℕ → Bool) → Network

@@ -17,8 +17,8 @@ use Rattle.mask.specs.Answers.{combined, union, and_not_of}
 use Rattle.mask.proofs.Masks.{mask-holds, mask-cong, is-of}
 use Rattle.side.specs.Side.{flip, words_of_row}
 use Rattle.graph.specs.Distance.{any_at}
-use Rattle.graph.specs.Network.{Network, touched, closed, linked, seeded, in_frontier, visited, region_words, frontier_words}
-use Rattle.graph.proofs.Networks.{Whole, closed-alone, sum-turn, visited-ended}
+use Rattle.graph.specs.Network.{Network, Whole, touched, closed, linked, seeded, in_frontier, visited, region_words, frontier_words}
+use Rattle.graph.proofs.Networks.{closed-alone, sum-turn, visited-ended}
 use Rattle.graph.proofs.Turns.{Hopping, Masks, begin, turn, finish, any-frontier}
 use Rattle.growth.specs.Visits.{visits_of, nothing, together, grown_by}
 use Rattle.growth.specs.declared.Visited.{Visited}

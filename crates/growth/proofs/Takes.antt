@@ -17,7 +17,7 @@ use Rattle.side.proofs.Holding.{holds-none, holds-next}
 use Rattle.side.proofs.AtRow.{at-masks}
 use Rattle.side.proofs.Words.{inside-word, or-whole}
 
--- ---- what `take_row` has taken at word k of a row
+-- ---- what `Rows::take` has taken at word k of a row
 
 module _ (n : ℕ) (reached idx masks : List ℕ) (from : ℕ) where
   abbrev pub taking : ℕ → ℕ → Bool

@@ -1,18 +1,12 @@
 -- What a growth is lent: a topology, and three masks: region, frontier and scratch.
-use Rattle.std.specs.Prelude.{List, ℕ, leb, eqb}
+use Rattle.std.specs.Prelude.{List, ℕ, leb}
 use Rattle.base.specs.Checks.{Check}
-use Rattle.base.specs.declared.Refusal.TheVariants.{ListTooShort, NotSquare}
+use Rattle.base.specs.declared.Refusal.TheVariants.{ListTooShort}
 use Rattle.base.specs.Checks.{must, ◌then◌, leaves}
 use Rattle.base.specs.Lists.{over}
 use Rattle.mask.specs.Mask.{words_needed}
-use Rattle.dual_topology.specs.declared.AbtmDualTopology.{AbtmDualTopology}
-use Rattle.dual_topology.specs.Views.{check_topology}
 use Rattle.dual_topology.specs.Answers.{scratch}
 use Rattle.graph.specs.Network.{Network, region_words, frontier_words}
-
--- the topology, then 10
-abbrev pub check_square : AbtmDualTopology → Check
-check_square t = check_topology t then must (eqb t.rows.nrows t.rows.ncols) NotSquare
 
 -- 25: each takes a mask's words
 unfoldable pub masks_room : ℕ → ℕ → ℕ → ℕ → Check

@@ -4,8 +4,7 @@ use Rattle.base.specs.Checks.{side_limit, entry_limit}
 use Rattle.base.specs.Sets.{count_below, sum_over}
 use Rattle.mask.specs.Mask.{in_mask}
 use Rattle.side.specs.Side.{flip, words_of_row}
-use Rattle.graph.proofs.Networks.{Whole}
-use Rattle.graph.specs.Network.{Network, visited, hops_made}
+use Rattle.graph.specs.Network.{Network, Whole, visited, hops_made}
 use Rattle.growth.specs.declared.Taken.{Taken}
 use Rattle.growth.specs.declared.Visited.{Visited}
 use Rattle.growth.specs.declared.Grown.{Grown}

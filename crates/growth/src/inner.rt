@@ -5,7 +5,7 @@ ghost use Rattle.base.specs.Sets.{any_below};
 ghost use Rattle.mask.specs.Mask.{in_mask, words_needed, mask_words, IsMask};
 ghost use Rattle.mask.specs.Answers.{combined, union, and_not_of};
 ghost use Rattle.side.specs.Check.{IsSide};
-ghost use Rattle.dual_topology.specs.Check.{IsTopology};
+ghost use Rattle.dual_topology.specs.Views.{SizedTopology};
 ghost use Rattle.graph.specs.Network.{Network, plain_network, closed, touched, region_words, frontier_words};
 ghost use Rattle.growth.specs.Visits.{visits_of, grown_by, Sound};
 ghost use Rattle.growth.specs.Lent.{masks_room};
@@ -25,13 +25,7 @@ pub fn check_room(n: usize, region: usize, frontier: usize, scratch: usize) -> R
     ensures accepted { IfOk result (λ t. (words_needed n ≤ region) × (words_needed n ≤ frontier) × (words_needed n ≤ scratch)) }
 {
     let need = mask::inner::words_for(n);
-    if region < need {
-        return Err(Refusal::ListTooShort);
-    }
-    if frontier < need {
-        return Err(Refusal::ListTooShort);
-    }
-    if scratch < need {
+    if region < need || frontier < need || scratch < need {
         return Err(Refusal::ListTooShort);
     }
     Ok(())
@@ -42,7 +36,7 @@ pub fn check_room(n: usize, region: usize, frontier: usize, scratch: usize) -> R
 pub struct Graph<'a> {
     pub n: usize,
     pub topology: Topology<'a>,
-    ghost square: { IsTopology n n topology.rows.row_word_ptr.now topology.rows.word_indices.now topology.rows.masks.now topology.columns.row_word_ptr.now topology.columns.word_indices.now topology.columns.masks.now },
+    ghost square: { SizedTopology n n topology },
 }
 
 // One side of a graph: its rows, or its columns as rows.
@@ -57,7 +51,7 @@ impl Rows<'_> {
     ghost use Rattle.side.specs.Views.{pairs};
     ghost use Rattle.growth.specs.Visits.{taken_of};
 
-    // Row i joins the mask, word by word. Word k is in two lists: to zip them, each would first be cut to the row.
+    // Row i joins the mask, word by word: a position in two lists, one of the forms that are asked for, stands for the Rust's iterator `words()`.
     fn take(self, i: usize, reached: &mut [u64]) -> Taken
         requires { IsMask self.n reached.old × (i < self.n) }
         ensures value { result ≡ taken_of self.entry.n (pairs self.entry.side i) }
@@ -88,15 +82,15 @@ pub fn settle(n: usize, region: &mut [u64], frontier: &mut [u64], reached: &mut 
     ensures frontier_after { frontier.new ≡ combined and_not_of n reached.old region.old }
     ensures reached_after { reached.new ≡ mask_words n (λ i. false) }
 {
-    let mut some: u64 = 0;
+    let mut fresh_bits: u64 = 0;
     for w in 0..region.len() {
         let fresh = reached[w] & !region[w];
         region[w] |= fresh;
         frontier[w] = fresh;
         reached[w] = 0;
-        some |= fresh;
+        fresh_bits |= fresh;
     }
-    some != 0
+    fresh_bits != 0
 }
 
 // What grows hop by hop: its network, and how far one hop reaches.
@@ -163,13 +157,12 @@ impl<'a> Hop for Graph<'a> {
 }
 
 impl<'a> Graph<'a> {
-    ghost use Rattle.dual_topology.specs.Views.{AcceptedFrom};
-    ghost use Rattle.growth.specs.Lent.{check_square};
+    ghost use Rattle.dual_topology.specs.Views.{check_square_topology, AcceptedFrom};
 
-    // The graph of a topology that is lent: the topology, then 10.
+    // The graph of a topology that is lent, which must be square.
     pub fn of(topology: AbtmDualTopology<'a>) -> Result<Graph<'a>, Refusal>
-        ensures refused { IfErr result (λ e. check_square topology.entry ≡ Err e) }
-        ensures accepted { IfOk result (λ g. (check_square topology.entry ≡ Ok tt) × (g.n ≡ topology.entry.rows.nrows) × AcceptedFrom topology.entry g.topology) }
+        ensures refused { IfErr result (λ e. check_square_topology topology.entry ≡ Err e) }
+        ensures accepted { IfOk result (λ g. (check_square_topology topology.entry ≡ Ok tt) × (g.n ≡ topology.entry.rows.nrows) × AcceptedFrom topology.entry g.topology) }
     {
         let topology = topology.accept()?;
         let n = topology.rows.nrows;
@@ -183,8 +176,8 @@ impl<'a> Graph<'a> {
 impl Graph<'_> {
     ghost use Rattle.side.specs.Views.{pairs};
 
-    // The nodes that an entry, at either order, joins to the frontier: its members' rows and columns joined into `reached`, a mask of none. Four sums:
-    // Visited's `+` would have each node make a struct of its four first.
+    // The nodes that an entry, at either order, joins to the frontier: its members' rows and columns joined into `reached`, a mask of none. Four sums
+    // stand one by one: Visited's `+` would have each node make a struct of its four first.
     pub fn expand(self, frontier: Mask, reached: &mut [u64]) -> Visited
         requires { (frontier.len ≡ self.n) × (reached.old ≡ mask_words self.n (λ i. false)) }
         ensures value { result ≡ visits_of self.entry.n (pairs self.entry.topology.rows) (in_mask frontier.entry.words.now) }

@@ -9,7 +9,7 @@ use native.Mathlib.Omega.{arith}
 use borrow.Author.Tests.{eq-eqb}
 use lib.ListN.{length}
 use Rattle.base.specs.Checks.{side_limit}
-use Rattle.base.proofs.Checks.{then_next, pass, both-passed}
+use Rattle.base.proofs.Checks.{then_next, last-pass, both-passed}
 use Rattle.mask.specs.Mask.{mask_check, length_check}
 use Rattle.mask.proofs.Masks.{mask-accepted, words-accepted}
 use Rattle.dof_layout.specs.Layout.{start_of, total_of, IsLayout}
@@ -51,7 +51,7 @@ square-solid topology side cols len s ok square small same =
       nodes = refl;
       few = omega (arith, small);
       whole = plain-whole side s;
-      room = λ seeds e c. then_next _ _ ok ∙ sym (pass _ _ _ _ (eq-eqb side cols square) refl) ∙ then_next _ _ e;
+      room = λ seeds e c. then_next _ _ (then_next _ _ ok ∙ sym (last-pass _ _ _ (eq-eqb side cols square) refl)) ∙ then_next _ _ e;
     }
 
 pub plain-solid : (topology : Check) (side len : ℕ) (s : ℕ → ℕ → Bool) → topology ≡ Ok tt → side ≤ side_limit → len ≡ side → Solid side len (plain_ground topology side s len)

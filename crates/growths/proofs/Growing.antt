@@ -192,7 +192,7 @@ seeds-words side len words e =
 
 pub plain-own : (topology : Check) (nrows ncols len : ℕ) (seeds region frontier scratch : List ℕ) → grow_check topology nrows ncols len seeds region frontier scratch ≡ Ok tt → length seeds ≡ words_needed nrows
 unfolding grow_check
-plain-own topology nrows ncols len seeds region frontier scratch e = seeds-words nrows len seeds (both-passed _ _ (both-passed _ _ (both-passed _ _ e).1).1).0
+plain-own topology nrows ncols len seeds region frontier scratch e = seeds-words nrows len seeds (both-passed _ _ (both-passed _ _ e).1).0
 
 pub field-own : (topology square : Check) (total len : ℕ) (seeds region frontier scratch : List ℕ) → field_grow_check topology square total len seeds region frontier scratch ≡ Ok tt → length seeds ≡ words_needed total
 unfolding field_grow_check

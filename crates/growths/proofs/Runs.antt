@@ -11,8 +11,8 @@ use Rattle.base.specs.Checks.{leaves}
 use Rattle.base.specs.Lists.{over}
 use Rattle.base.specs.declared.Refusal.{Refusal}
 use Rattle.mask.specs.Mask.{words_needed}
-use Rattle.graph.specs.Network.{Network, region_words, frontier_words}
-use Rattle.graph.proofs.Networks.{Whole, regrow-region, regrow-frontier, region-cap, frontier-cap}
+use Rattle.graph.specs.Network.{Network, Whole, region_words, frontier_words}
+use Rattle.graph.proofs.Networks.{regrow-region, regrow-frontier, region-cap, frontier-cap}
 use Rattle.growth.proofs.Lent.{region-length, frontier-length}
 use Rattle.growths.specs.Runs.{largest, Growth, Ground, Run, begun, own, check_of, region_of, frontier_of, grown, run}
 

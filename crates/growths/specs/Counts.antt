@@ -1,5 +1,5 @@
 -- A list of growths given by arrays: growth i goes by hops[i] and is lent the first rooms[i] words of three lists, as far as they reach. Each is
--- seeded with the region of the last accepted one. What such a list comes to, by demand 3: one growth by the total.
+-- seeded with the region of the last accepted one. What such a list comes to: one growth by the total.
 use Rattle.std.specs.Prelude.{Bool, cond, List, ℕ, zero, suc, ◌+◌, min, leb, eqb, get_or, replicate}
 use Rattle.base.specs.Lists.{over}
 use Rattle.base.specs.Sets.{count_below, sum_over}

@@ -1,3 +1,4 @@
 pub mod Runs
 pub mod Counts
 pub mod Solid
+pub mod Views

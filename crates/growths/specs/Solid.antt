@@ -3,7 +3,7 @@ use Rattle.std.specs.Prelude.{◌≡◌, List, ℕ, ◌≤◌, length}
 use Rattle.std.specs.Prelude.{Ok}
 use Rattle.base.specs.Checks.{side_limit}
 use Rattle.mask.specs.Mask.{length_check}
-use Rattle.graph.proofs.Networks.{Whole}
+use Rattle.graph.specs.Network.{Whole}
 use Rattle.growth.specs.Lent.{masks_room}
 use Rattle.growths.specs.Runs.{largest, Growth, Ground, check_of}
 

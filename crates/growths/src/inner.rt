@@ -3,15 +3,14 @@ ghost use Rattle.std.specs.Prelude.{◌≡◌, ℕ, ◌<◌, min, length};
 ghost use Rattle.base.specs.Checks.{leaves};
 ghost use Rattle.mask.specs.Mask.{words_needed, length_check};
 ghost use Rattle.dof_layout.specs.Views.{check_square};
-ghost use Rattle.side.specs.Views.{holds};
 ghost use Rattle.dual_topology.specs.Views.{check_topology};
 ghost use Rattle.graph.specs.Network.{region_words};
 ghost use Rattle.growth.specs.Lent.{region_left, frontier_left, scratch_left};
-ghost use Rattle.region.specs.Growth.{grow_check};
 ghost use Rattle.region.specs.Views.{plain};
 ghost use Rattle.field_region.specs.Views.{blocked};
-ghost use Rattle.growths.specs.Runs.{largest, Ground, field_ground};
+ghost use Rattle.growths.specs.Runs.{largest, Ground};
 ghost use Rattle.growths.specs.Solid.{Solid};
+ghost use Rattle.growths.specs.Views.{plain_growths, field_growths};
 ghost use Rattle.growths.specs.Counts.{counted_by, ran_of, seeds_after, region_once_grown, frontier_once_grown, scratch_once_grown};
 
 use crate::Ran;
@@ -19,6 +18,14 @@ use base::Refusal;
 use dof_layout::FieldAwareDofLayout;
 use dual_topology::AbtmDualTopology;
 use mask::DofMask;
+
+// What the growths of a list are asked for: growth i goes by hops[i] and is lent the first rooms[i] words of the three lists, as far as they reach.
+#[derive(Clone, Copy)]
+pub struct Asked<'a> {
+    pub hops: &'a [u64],
+    pub rooms: &'a [u64],
+    ghost one_each: { length rooms.now ≡ length hops.now },
+}
 
 // One accepted growth more. A total past 64 bits stays at the largest.
 fn counted(ran: Ran, hops: u64) -> Ran
@@ -59,7 +66,7 @@ struct Plain<'a> {
 }
 
 impl<'a> Grower for Plain<'a> {
-    ghost shared = { λ g. record { network = plain g.topology; check = grow_check (check_topology g.topology) g.topology.rows.nrows g.topology.rows.ncols g.len } };
+    ghost shared = { λ g. plain_growths g.topology g.len };
 
     fn once(
         &self,
@@ -86,7 +93,7 @@ struct Fields<'a> {
 }
 
 impl<'a> Grower for Fields<'a> {
-    ghost shared = { λ g. field_ground (check_topology g.topology) (check_square g.layout g.topology.rows.nrows g.topology.rows.ncols) g.layout.blocks.components.now (holds g.topology.rows) g.len };
+    ghost shared = { λ g. field_growths g.topology g.layout g.len };
 
     fn once(
         &self,
@@ -140,20 +147,18 @@ fn grow_one<G: Grower>(
     }
 }
 
-// Growth i goes by hops[i] and is lent the first rooms[i] words of the three lists, as far as they reach; refused ones change nothing. What the
-// list comes to is one growth by the total from the first seeds. Counts and rooms are two arrays, as claims and C hand them in. By index: what
-// holds after i growths is said of the first i counts and rooms, and a numbered zip would count for the proof alone.
+// A growth that is refused changes nothing. What the list comes to is one growth by the total from the first seeds. By index: what holds after i
+// growths is said of the first i counts and rooms, and a numbered zip would count for the proof alone.
 fn grow_all<G: Grower>(
     g: &G,
     seeds: &mut [u64],
-    hops: &[u64],
-    rooms: &[u64],
+    asked: Asked,
     region: &mut [u64],
     frontier: &mut [u64],
     scratch: &mut [u64],
 ) -> Ran
-    requires { (side : ℕ) × (len : ℕ) × Solid side len (G.shared g.now) × (length_check side len seeds.old ≡ Ok tt) × (length rooms.now ≡ length hops.now) }
-    ensures value { result ≡ ran_of (words_needed (G.shared g.now).network.nodes) hops.now rooms.now (min (length region.old) (min (length frontier.old) (length scratch.old))) (length hops.now) }
+    requires { (side : ℕ) × (len : ℕ) × Solid side len (G.shared g.now) × (length_check side len seeds.old ≡ Ok tt) }
+    ensures value { result ≡ ran_of (words_needed (G.shared g.now).network.nodes) asked.entry.hops.now asked.entry.rooms.now (min (length region.old) (min (length frontier.old) (length scratch.old))) (length asked.entry.hops.now) }
     ensures renewed { seeds.new ≡ seeds_after (G.shared g.now).network result seeds.old }
     ensures inside { region.new ≡ region_once_grown (G.shared g.now).network result seeds.old region.old }
     ensures edge { frontier.new ≡ frontier_once_grown (G.shared g.now).network result seeds.old frontier.old }
@@ -161,12 +166,12 @@ fn grow_all<G: Grower>(
 {
     let shortest = region.len().min(frontier.len().min(scratch.len()));
     let mut ran = Ran::default();
-    for i in 0..hops.len() {
-        let part = shortest.min(rooms[i] as usize);
+    for i in 0..asked.hops.len() {
+        let part = shortest.min(asked.rooms[i] as usize);
         ran = grow_one(
             g,
             seeds,
-            hops[i],
+            asked.hops[i],
             &mut region[..part],
             &mut frontier[..part],
             &mut scratch[..part],
@@ -176,41 +181,40 @@ fn grow_all<G: Grower>(
     ran
 }
 
+// A list of plain growths.
 pub fn grow_list(
     topology: AbtmDualTopology,
     len: usize,
     seeds: &mut [u64],
-    hops: &[u64],
-    rooms: &[u64],
+    asked: Asked,
     region: &mut [u64],
     frontier: &mut [u64],
     scratch: &mut [u64],
 ) -> Ran
-    requires { (check_topology topology ≡ Ok tt) × (topology.rows.nrows ≡ topology.rows.ncols) × (length_check topology.rows.nrows len seeds.old ≡ Ok tt) × (length rooms.now ≡ length hops.now) }
-    ensures value { result ≡ ran_of (words_needed topology.entry.rows.nrows) hops.now rooms.now (min (length region.old) (min (length frontier.old) (length scratch.old))) (length hops.now) }
+    requires { (check_topology topology ≡ Ok tt) × (topology.rows.nrows ≡ topology.rows.ncols) × (length_check topology.rows.nrows len seeds.old ≡ Ok tt) }
+    ensures value { result ≡ ran_of (words_needed topology.entry.rows.nrows) asked.entry.hops.now asked.entry.rooms.now (min (length region.old) (min (length frontier.old) (length scratch.old))) (length asked.entry.hops.now) }
     ensures renewed { seeds.new ≡ seeds_after (plain topology.entry) result seeds.old }
     ensures inside { region.new ≡ region_once_grown (plain topology.entry) result seeds.old region.old }
     ensures edge { frontier.new ≡ frontier_once_grown (plain topology.entry) result seeds.old frontier.old }
     ensures spent { scratch.new ≡ scratch_once_grown (plain topology.entry) result scratch.old }
 {
     let g = Plain { topology, len };
-    grow_all(&g, seeds, hops, rooms, region, frontier, scratch)
+    grow_all(&g, seeds, asked, region, frontier, scratch)
 }
 
-// A list of growths under a layout: demand 3 for field growths.
+// A list of growths by whole blocks, under a layout.
 pub fn grow_field_list<'a>(
     topology: AbtmDualTopology<'a>,
     layout: FieldAwareDofLayout<'a>,
     len: usize,
     seeds: &mut [u64],
-    hops: &[u64],
-    rooms: &[u64],
+    asked: Asked,
     region: &mut [u64],
     frontier: &mut [u64],
     scratch: &mut [u64],
 ) -> Ran
-    requires { (check_topology topology ≡ Ok tt) × (check_square layout topology.rows.nrows topology.rows.ncols ≡ Ok tt) × (length_check topology.rows.nrows len seeds.old ≡ Ok tt) × (length rooms.now ≡ length hops.now) }
-    ensures value { result ≡ ran_of (words_needed topology.entry.rows.nrows) hops.now rooms.now (min (length region.old) (min (length frontier.old) (length scratch.old))) (length hops.now) }
+    requires { (check_topology topology ≡ Ok tt) × (check_square layout topology.rows.nrows topology.rows.ncols ≡ Ok tt) × (length_check topology.rows.nrows len seeds.old ≡ Ok tt) }
+    ensures value { result ≡ ran_of (words_needed topology.entry.rows.nrows) asked.entry.hops.now asked.entry.rooms.now (min (length region.old) (min (length frontier.old) (length scratch.old))) (length asked.entry.hops.now) }
     ensures renewed { seeds.new ≡ seeds_after (blocked topology.entry layout.entry) result seeds.old }
     ensures inside { region.new ≡ region_once_grown (blocked topology.entry layout.entry) result seeds.old region.old }
     ensures edge { frontier.new ≡ frontier_once_grown (blocked topology.entry layout.entry) result seeds.old frontier.old }
@@ -221,5 +225,5 @@ pub fn grow_field_list<'a>(
         layout,
         len,
     };
-    grow_all(&g, seeds, hops, rooms, region, frontier, scratch)
+    grow_all(&g, seeds, asked, region, frontier, scratch)
 }

@@ -1,5 +1,5 @@
-// Lists of growths, refused ones among them, each seeded with the region that the last accepted one gave: what demand 3 speaks of. Functions run
-// one that is given by arrays, plain or by whole blocks. It holds no public call.
+// Lists of growths, refused ones among them, each seeded with the region that the last accepted one gave: together they are one growth by the
+// total of their counts. Functions run one that is given by arrays, plain or by whole blocks. It holds no public call.
 #![tactic(auto)]
 
 pub mod inner;

@@ -1,9 +1,15 @@
--- The answers of the calls on topologies as the flat records that cross the C boundary.
+-- The answers of the calls on topologies as the flat records that cross the C boundary, and these answers by the lists in the order of C's calls.
 use Rattle.std.specs.Prelude.{Bool, true, false}
-use Rattle.std.specs.Prelude.{ℕ, Result, Ok, Err, Option}
+use Rattle.std.specs.Prelude.{List, ℕ, Result, Ok, Err, Option}
+use Rattle.base.specs.Checks.{Check}
 use Rattle.base.specs.declared.Refusal.{Refusal}
 use Rattle.std.specs.Float.{binary64}
 use Rattle.std.specs.Float.Ieee.{of_bits}
+use Rattle.word.specs.Answers.{on}
+use Rattle.word.specs.declared.Operation.{Operation}
+use Rattle.side.specs.Side.{side_holds}
+use Rattle.side_sets.specs.Sets.{pairwise_pairs}
+use Rattle.dual_topology.specs.Check.{topology_check}
 use Rattle.topology.specs.Statistics.{average_nnz_of_word, fill_ratio_of_words, bytes_per_nnz}
 use Rattle.dual_topology.specs.Answers as dual
 use Rattle.dual_topology.specs.declared.RowOf.{RowOf}
@@ -51,3 +57,23 @@ flat_of_word = flat_of (flat_of_some (λ w. pair_answer_of w.word_index w.mask) 
 unfoldable pub side_of_name : Bool → RowOf
 side_of_name true = RowOf.Columns
 side_of_name false = RowOf.Rows
+
+-- the pairs that an operation gives of those of two sides
+abbrev pub pairs_by : Operation → List ℕ → List ℕ → List ℕ → List ℕ → List ℕ → List ℕ → ℕ → ℕ → Bool
+pairs_by op ptr_a words_a masks_a ptr_b words_b masks_b = pairwise_pairs (on op) (side_holds ptr_a words_a masks_a) (side_holds ptr_b words_b masks_b)
+
+-- ---- a topology by its twelve
+
+module _ (nrows ncols : ℕ) (row_word_ptr row_word_indices row_masks : List ℕ) (structural_nnz column_nrows column_ncols : ℕ) (column_word_ptr column_word_indices column_masks : List ℕ) (column_structural_nnz : ℕ) where
+  abbrev topology : Check
+  topology = topology_check nrows ncols row_word_ptr row_word_indices row_masks structural_nnz column_nrows column_ncols column_word_ptr column_word_indices column_masks column_structural_nnz
+
+  -- counts and bytes
+  abbrev pub stated : Result AbtmDualTopologyStats Refusal
+  stated = dual.stats_answer topology (dual.stats_of nrows ncols row_word_ptr row_word_indices row_masks structural_nnz column_word_ptr column_word_indices column_masks)
+
+  -- what is asked of a row: by its check, how many columns it may have, and which it has
+  abbrev pub on_row : {A : Type 0} → (Check → ℕ → (ℕ → Bool) → A) → Bool → ℕ → A
+  on_row asked columns number =
+      let of = side_of_name columns in
+      asked (dual.row_check topology number (dual.rows_of of nrows ncols)) (dual.width_of of nrows ncols) (dual.row_set of (side_holds row_word_ptr row_word_indices row_masks) number)

@@ -1,14 +1,14 @@
 // The calls on a topology and its rows with flat answers. A row is named by side and number: `columns` says which side.
 ghost use Rattle.std.specs.Prelude.{◌≡◌, ◌+◌, length};
 ghost use Rattle.csr32.specs.Matrix.{stored};
-ghost use Rattle.side.specs.Side.{flip, side_holds};
+ghost use Rattle.side.specs.Side.{flip};
 ghost use Rattle.side.specs.Built.{built_ptr, built_words, built_masks};
 ghost use Rattle.dual_topology.specs.Check.{topology_check};
-ghost use Rattle.dual_topology.specs.Answers.{build_check, build_answer, scratch, stats_of, stats_answer, rows_of, width_of, row_set, row_check, row_words_answer, row_popcount_answer, row_contains_answer, row_rank_answer, row_select_answer, row_word_answer};
+ghost use Rattle.dual_topology.specs.Answers.{build_check, build_answer, scratch, row_words_answer, row_popcount_answer, row_contains_answer, row_rank_answer, row_select_answer, row_word_answer};
 ghost use Rattle.hybit_matrix.specs.Flat.{pair_answer_of, flat_of_checked, flat_of_truth, flat_of_counted};
-ghost use Rattle.hybit_matrix.specs.FlatTopology.{flat_of_dual_stated, flat_of_topology_built, flat_of_column, flat_of_word, side_of_name};
+ghost use Rattle.hybit_matrix.specs.FlatTopology.{flat_of_dual_stated, flat_of_topology_built, flat_of_column, flat_of_word, side_of_name, stated, on_row};
 
-use crate::{Answer, Flat, PairAnswer, views};
+use crate::{Answer, Flat, PairAnswer, refused, views};
 use base::Refusal;
 use dual_topology::{AbtmDualTopologyStats, RowOf, TopologyCounts};
 use word::AbtmTopologyWord;
@@ -60,12 +60,7 @@ impl From<Result<AbtmDualTopologyStats, Refusal>> for DualStatsAnswer {
                 metadata_bytes_per_nnz: x.metadata_bytes_per_nnz(),
                 ..Self::default()
             },
-            Err(r) => Self {
-                number: r.number(),
-                expected: r.expected(),
-                actual: r.actual(),
-                ..Self::default()
-            },
+            Err(r) => refused!(r),
         }
     }
 }
@@ -83,12 +78,7 @@ impl From<Result<TopologyCounts, Refusal>> for BuildAnswer {
                 pairs: x.pairs,
                 ..Self::default()
             },
-            Err(r) => Self {
-                number: r.number(),
-                expected: r.expected(),
-                actual: r.actual(),
-                ..Self::default()
-            },
+            Err(r) => refused!(r),
         }
     }
 }
@@ -200,7 +190,7 @@ pub fn hybit_dual_topology_stats(
     column_masks: &[u64],
     column_structural_nnz: usize,
 ) -> DualStatsAnswer
-    ensures { result ≡ flat_of_dual_stated (stats_answer (topology_check nrows ncols row_word_ptr.now row_word_indices.now row_masks.now structural_nnz column_nrows column_ncols column_word_ptr.now column_word_indices.now column_masks.now column_structural_nnz) (stats_of nrows ncols row_word_ptr.now row_word_indices.now row_masks.now structural_nnz column_word_ptr.now column_word_indices.now column_masks.now)) }
+    ensures { result ≡ flat_of_dual_stated (stated nrows ncols row_word_ptr.now row_word_indices.now row_masks.now structural_nnz column_nrows column_ncols column_word_ptr.now column_word_indices.now column_masks.now column_structural_nnz) }
 {
     views::topology(
         nrows,
@@ -239,7 +229,7 @@ pub fn hybit_row_words(
     columns: bool,
     number: u64,
 ) -> Answer
-    ensures { result ≡ flat_of_counted (row_words_answer (row_check (topology_check nrows ncols row_word_ptr.now row_word_indices.now row_masks.now structural_nnz column_nrows column_ncols column_word_ptr.now column_word_indices.now column_masks.now column_structural_nnz) number (rows_of (side_of_name columns) nrows ncols)) (width_of (side_of_name columns) nrows ncols) (row_set (side_of_name columns) (side_holds row_word_ptr.now row_word_indices.now row_masks.now) number)) }
+    ensures { result ≡ flat_of_counted (on_row nrows ncols row_word_ptr.now row_word_indices.now row_masks.now structural_nnz column_nrows column_ncols column_word_ptr.now column_word_indices.now column_masks.now column_structural_nnz row_words_answer columns number) }
 {
     views::topology(
         nrows,
@@ -276,7 +266,7 @@ pub fn hybit_row_popcount(
     columns: bool,
     number: u64,
 ) -> Answer
-    ensures { result ≡ flat_of_counted (row_popcount_answer (row_check (topology_check nrows ncols row_word_ptr.now row_word_indices.now row_masks.now structural_nnz column_nrows column_ncols column_word_ptr.now column_word_indices.now column_masks.now column_structural_nnz) number (rows_of (side_of_name columns) nrows ncols)) (width_of (side_of_name columns) nrows ncols) (row_set (side_of_name columns) (side_holds row_word_ptr.now row_word_indices.now row_masks.now) number)) }
+    ensures { result ≡ flat_of_counted (on_row nrows ncols row_word_ptr.now row_word_indices.now row_masks.now structural_nnz column_nrows column_ncols column_word_ptr.now column_word_indices.now column_masks.now column_structural_nnz row_popcount_answer columns number) }
 {
     views::topology(
         nrows,
@@ -314,7 +304,7 @@ pub fn hybit_row_contains(
     number: u64,
     col: u64,
 ) -> Answer
-    ensures { result ≡ flat_of_truth (row_contains_answer (row_check (topology_check nrows ncols row_word_ptr.now row_word_indices.now row_masks.now structural_nnz column_nrows column_ncols column_word_ptr.now column_word_indices.now column_masks.now column_structural_nnz) number (rows_of (side_of_name columns) nrows ncols)) (width_of (side_of_name columns) nrows ncols) (row_set (side_of_name columns) (side_holds row_word_ptr.now row_word_indices.now row_masks.now) number) col) }
+    ensures { result ≡ flat_of_truth (on_row nrows ncols row_word_ptr.now row_word_indices.now row_masks.now structural_nnz column_nrows column_ncols column_word_ptr.now column_word_indices.now column_masks.now column_structural_nnz row_contains_answer columns number col) }
 {
     views::topology(
         nrows,
@@ -352,7 +342,7 @@ pub fn hybit_row_rank(
     number: u64,
     col: u64,
 ) -> Answer
-    ensures { result ≡ flat_of_counted (row_rank_answer (row_check (topology_check nrows ncols row_word_ptr.now row_word_indices.now row_masks.now structural_nnz column_nrows column_ncols column_word_ptr.now column_word_indices.now column_masks.now column_structural_nnz) number (rows_of (side_of_name columns) nrows ncols)) (width_of (side_of_name columns) nrows ncols) (row_set (side_of_name columns) (side_holds row_word_ptr.now row_word_indices.now row_masks.now) number) col) }
+    ensures { result ≡ flat_of_counted (on_row nrows ncols row_word_ptr.now row_word_indices.now row_masks.now structural_nnz column_nrows column_ncols column_word_ptr.now column_word_indices.now column_masks.now column_structural_nnz row_rank_answer columns number col) }
 {
     views::topology(
         nrows,
@@ -390,7 +380,7 @@ pub fn hybit_row_select(
     number: u64,
     ordinal: u64,
 ) -> Answer
-    ensures { result ≡ flat_of_column (row_select_answer (row_check (topology_check nrows ncols row_word_ptr.now row_word_indices.now row_masks.now structural_nnz column_nrows column_ncols column_word_ptr.now column_word_indices.now column_masks.now column_structural_nnz) number (rows_of (side_of_name columns) nrows ncols)) (width_of (side_of_name columns) nrows ncols) (row_set (side_of_name columns) (side_holds row_word_ptr.now row_word_indices.now row_masks.now) number) ordinal) }
+    ensures { result ≡ flat_of_column (on_row nrows ncols row_word_ptr.now row_word_indices.now row_masks.now structural_nnz column_nrows column_ncols column_word_ptr.now column_word_indices.now column_masks.now column_structural_nnz row_select_answer columns number ordinal) }
 {
     views::topology(
         nrows,
@@ -428,7 +418,7 @@ pub fn hybit_row_word(
     number: u64,
     k: u64,
 ) -> PairAnswer
-    ensures { result ≡ flat_of_word (row_word_answer (row_check (topology_check nrows ncols row_word_ptr.now row_word_indices.now row_masks.now structural_nnz column_nrows column_ncols column_word_ptr.now column_word_indices.now column_masks.now column_structural_nnz) number (rows_of (side_of_name columns) nrows ncols)) (width_of (side_of_name columns) nrows ncols) (row_set (side_of_name columns) (side_holds row_word_ptr.now row_word_indices.now row_masks.now) number) k) }
+    ensures { result ≡ flat_of_word (on_row nrows ncols row_word_ptr.now row_word_indices.now row_masks.now structural_nnz column_nrows column_ncols column_word_ptr.now column_word_indices.now column_masks.now column_structural_nnz row_word_answer columns number k) }
 {
     views::topology(
         nrows,

@@ -1,6 +1,7 @@
 // Every public call as one function over lists, its answer as one flat record of numbers and flags: C has neither slices nor enums with values, so
 // lists that belong together and the records stay as they are here. Functions that are alike but for the call that they make stay as well: each is a
-// name of C's, with a record of its own. The static library hybit_matrix_c exports each for C.
+// name of C's, with a record of its own. The static library hybit_matrix_c exports each for C. A clause names all lists of its call in C's order,
+// which makes those of a plan and of a prepared region long.
 #![tactic(auto)]
 
 ghost use Rattle.std.specs.Prelude.{◌≡◌, ◌*◌};
@@ -48,6 +49,21 @@ pub struct PairAnswer {
     pub second: u64,
 }
 
+// A refusal as a record of C's: its number and figures, all else as in the default. The records hold these one by one and in no struct, because C
+// reads them flat.
+macro_rules! refused {
+    ($refusal:ident) => {
+        Self {
+            number: $refusal.number(),
+            expected: $refusal.expected(),
+            actual: $refusal.actual(),
+            ..Self::default()
+        }
+    };
+}
+
+pub(crate) use refused;
+
 // A value that is no refusal, as the record of an answer that has it. What a `From` promises is a relation; this is a function, so that the
 // conversions of any such value, which stand on it, promise an equation.
 pub trait Flat<R> {
@@ -61,12 +77,7 @@ impl From<Refusal> for Answer {
     ghost from_gives = { λ r a. a ≡ answer_refused r };
 
     fn from(r: Refusal) -> Self {
-        Self {
-            number: r.number(),
-            expected: r.expected(),
-            actual: r.actual(),
-            ..Self::default()
-        }
+        refused!(r)
     }
 }
 
@@ -106,6 +117,8 @@ impl Flat<Answer> for () {
     }
 }
 
+// Here and below, one impl for each of the two records: of a `Default` of any record only a relation is known, so an equation for any record would
+// ask for a trait of the record of none, whose two impls are as long as the one that they spare.
 impl<T: Flat<Answer>> Flat<Answer> for Option<T> {
     ghost flat_record = { flat_of_some T.Flat.flat_record answered_none };
 
@@ -134,12 +147,7 @@ impl From<Refusal> for PairAnswer {
     ghost from_gives = { λ r a. a ≡ pair_answer_refused r };
 
     fn from(r: Refusal) -> Self {
-        Self {
-            number: r.number(),
-            expected: r.expected(),
-            actual: r.actual(),
-            ..Self::default()
-        }
+        refused!(r)
     }
 }
 

@@ -1,16 +1,10 @@
 // The calls on the local system of a region with flat answers: pattern, numeric plan, gather.
 ghost use Rattle.std.specs.Prelude.{◌≡◌};
-ghost use Rattle.csr32.specs.Matrix.{matrix_check, stored};
-ghost use Rattle.mask.specs.Mask.{in_mask};
-ghost use Rattle.side.specs.Side.{side_holds};
-ghost use Rattle.dual_topology.specs.Check.{topology_check};
-ghost use Rattle.pattern.specs.Pattern.{pattern_check, pattern_answer, nodes_left, ptr_left, columns_left};
-ghost use Rattle.numeric_plan.specs.Plan.{pair_entries, plan_inputs, plan_check, plan_answer, source_ptr_left, sources_left};
 ghost use Rattle.gather.specs.Gather.{gather_check, gather_answer, gather_left};
 ghost use Rattle.hybit_matrix.specs.Flat.{flat_of_counted};
-ghost use Rattle.hybit_matrix.specs.FlatLocal.{flat_of_pattern, flat_of_plan};
+ghost use Rattle.hybit_matrix.specs.FlatLocal.{flat_of_pattern, flat_of_plan, pattern_of, plan_of};
 
-use crate::{Answer, views};
+use crate::{Answer, refused, views};
 use base::Refusal;
 use gather::GatherPlan;
 use numeric_plan::AbtmLocalNumericPlanStats;
@@ -72,12 +66,7 @@ impl From<Result<AbtmLocalSubmatrixPatternStats, Refusal>> for PatternAnswer {
                 average_local_row_nnz: x.average_local_row_nnz(),
                 ..Self::default()
             },
-            Err(r) => Self {
-                number: r.number(),
-                expected: r.expected(),
-                actual: r.actual(),
-                ..Self::default()
-            },
+            Err(r) => refused!(r),
         }
     }
 }
@@ -98,12 +87,7 @@ impl From<Result<AbtmLocalNumericPlanStats, Refusal>> for PlanAnswer {
                 plan_bytes: x.plan_bytes as u64,
                 ..Self::default()
             },
-            Err(r) => Self {
-                number: r.number(),
-                expected: r.expected(),
-                actual: r.actual(),
-                ..Self::default()
-            },
+            Err(r) => refused!(r),
         }
     }
 }
@@ -129,10 +113,10 @@ pub fn hybit_extract_local_submatrix_pattern(
     row_ptr: &mut [u32],
     col_idx: &mut [u32],
 ) -> PatternAnswer
-    ensures value { result ≡ flat_of_pattern (pattern_answer (pattern_check (topology_check nrows ncols row_word_ptr.now row_word_indices.now row_masks.now structural_nnz column_nrows column_ncols column_word_ptr.now column_word_indices.now column_masks.now column_structural_nnz) nrows ncols len words.now (side_holds row_word_ptr.now row_word_indices.now row_masks.now) global_nodes.old row_ptr.old col_idx.old) nrows (in_mask words.now) (side_holds row_word_ptr.now row_word_indices.now row_masks.now)) }
-    ensures members { global_nodes.new ≡ nodes_left (pattern_check (topology_check nrows ncols row_word_ptr.now row_word_indices.now row_masks.now structural_nnz column_nrows column_ncols column_word_ptr.now column_word_indices.now column_masks.now column_structural_nnz) nrows ncols len words.now (side_holds row_word_ptr.now row_word_indices.now row_masks.now) global_nodes.old row_ptr.old col_idx.old) nrows (in_mask words.now) global_nodes.old }
-    ensures pointers { row_ptr.new ≡ ptr_left (pattern_check (topology_check nrows ncols row_word_ptr.now row_word_indices.now row_masks.now structural_nnz column_nrows column_ncols column_word_ptr.now column_word_indices.now column_masks.now column_structural_nnz) nrows ncols len words.now (side_holds row_word_ptr.now row_word_indices.now row_masks.now) global_nodes.old row_ptr.old col_idx.old) nrows (in_mask words.now) (side_holds row_word_ptr.now row_word_indices.now row_masks.now) row_ptr.old }
-    ensures columns { col_idx.new ≡ columns_left (pattern_check (topology_check nrows ncols row_word_ptr.now row_word_indices.now row_masks.now structural_nnz column_nrows column_ncols column_word_ptr.now column_word_indices.now column_masks.now column_structural_nnz) nrows ncols len words.now (side_holds row_word_ptr.now row_word_indices.now row_masks.now) global_nodes.old row_ptr.old col_idx.old) nrows (in_mask words.now) (side_holds row_word_ptr.now row_word_indices.now row_masks.now) col_idx.old }
+    ensures value { result ≡ (pattern_of nrows ncols row_word_ptr.now row_word_indices.now row_masks.now structural_nnz column_nrows column_ncols column_word_ptr.now column_word_indices.now column_masks.now column_structural_nnz len words.now global_nodes.old row_ptr.old col_idx.old).answer }
+    ensures members { global_nodes.new ≡ (pattern_of nrows ncols row_word_ptr.now row_word_indices.now row_masks.now structural_nnz column_nrows column_ncols column_word_ptr.now column_word_indices.now column_masks.now column_structural_nnz len words.now global_nodes.old row_ptr.old col_idx.old).nodes }
+    ensures pointers { row_ptr.new ≡ (pattern_of nrows ncols row_word_ptr.now row_word_indices.now row_masks.now structural_nnz column_nrows column_ncols column_word_ptr.now column_word_indices.now column_masks.now column_structural_nnz len words.now global_nodes.old row_ptr.old col_idx.old).ptr }
+    ensures columns { col_idx.new ≡ (pattern_of nrows ncols row_word_ptr.now row_word_indices.now row_masks.now structural_nnz column_nrows column_ncols column_word_ptr.now column_word_indices.now column_masks.now column_structural_nnz len words.now global_nodes.old row_ptr.old col_idx.old).columns }
 {
     pattern::extract_local_submatrix_pattern(
         views::topology(
@@ -185,12 +169,12 @@ pub fn hybit_prepare_local_numeric_plan(
     source_ptr: &mut [u32],
     source_indices: &mut [u32],
 ) -> PlanAnswer
-    ensures value { result ≡ flat_of_plan (plan_answer (plan_check (plan_inputs (matrix_check matrix_nrows matrix_ncols row_ptr.now col_idx.now values.now) (topology_check nrows ncols row_word_ptr.now row_word_indices.now row_masks.now structural_nnz column_nrows column_ncols column_word_ptr.now column_word_indices.now column_masks.now column_structural_nnz) matrix_nrows matrix_ncols nrows ncols len words.now (side_holds row_word_ptr.now row_word_indices.now row_masks.now) (stored row_ptr.now col_idx.now)) nrows (in_mask words.now) (side_holds row_word_ptr.now row_word_indices.now row_masks.now) (pair_entries nrows (in_mask words.now) (side_holds row_word_ptr.now row_word_indices.now row_masks.now) row_ptr.now col_idx.now) global_nodes.old local_row_ptr.old local_col_idx.old source_ptr.old source_indices.old) nrows (in_mask words.now) (pair_entries nrows (in_mask words.now) (side_holds row_word_ptr.now row_word_indices.now row_masks.now) row_ptr.now col_idx.now)) }
-    ensures members { global_nodes.new ≡ nodes_left (plan_check (plan_inputs (matrix_check matrix_nrows matrix_ncols row_ptr.now col_idx.now values.now) (topology_check nrows ncols row_word_ptr.now row_word_indices.now row_masks.now structural_nnz column_nrows column_ncols column_word_ptr.now column_word_indices.now column_masks.now column_structural_nnz) matrix_nrows matrix_ncols nrows ncols len words.now (side_holds row_word_ptr.now row_word_indices.now row_masks.now) (stored row_ptr.now col_idx.now)) nrows (in_mask words.now) (side_holds row_word_ptr.now row_word_indices.now row_masks.now) (pair_entries nrows (in_mask words.now) (side_holds row_word_ptr.now row_word_indices.now row_masks.now) row_ptr.now col_idx.now) global_nodes.old local_row_ptr.old local_col_idx.old source_ptr.old source_indices.old) nrows (in_mask words.now) global_nodes.old }
-    ensures pointers { local_row_ptr.new ≡ ptr_left (plan_check (plan_inputs (matrix_check matrix_nrows matrix_ncols row_ptr.now col_idx.now values.now) (topology_check nrows ncols row_word_ptr.now row_word_indices.now row_masks.now structural_nnz column_nrows column_ncols column_word_ptr.now column_word_indices.now column_masks.now column_structural_nnz) matrix_nrows matrix_ncols nrows ncols len words.now (side_holds row_word_ptr.now row_word_indices.now row_masks.now) (stored row_ptr.now col_idx.now)) nrows (in_mask words.now) (side_holds row_word_ptr.now row_word_indices.now row_masks.now) (pair_entries nrows (in_mask words.now) (side_holds row_word_ptr.now row_word_indices.now row_masks.now) row_ptr.now col_idx.now) global_nodes.old local_row_ptr.old local_col_idx.old source_ptr.old source_indices.old) nrows (in_mask words.now) (side_holds row_word_ptr.now row_word_indices.now row_masks.now) local_row_ptr.old }
-    ensures columns { local_col_idx.new ≡ columns_left (plan_check (plan_inputs (matrix_check matrix_nrows matrix_ncols row_ptr.now col_idx.now values.now) (topology_check nrows ncols row_word_ptr.now row_word_indices.now row_masks.now structural_nnz column_nrows column_ncols column_word_ptr.now column_word_indices.now column_masks.now column_structural_nnz) matrix_nrows matrix_ncols nrows ncols len words.now (side_holds row_word_ptr.now row_word_indices.now row_masks.now) (stored row_ptr.now col_idx.now)) nrows (in_mask words.now) (side_holds row_word_ptr.now row_word_indices.now row_masks.now) (pair_entries nrows (in_mask words.now) (side_holds row_word_ptr.now row_word_indices.now row_masks.now) row_ptr.now col_idx.now) global_nodes.old local_row_ptr.old local_col_idx.old source_ptr.old source_indices.old) nrows (in_mask words.now) (side_holds row_word_ptr.now row_word_indices.now row_masks.now) local_col_idx.old }
-    ensures starts { source_ptr.new ≡ source_ptr_left (plan_check (plan_inputs (matrix_check matrix_nrows matrix_ncols row_ptr.now col_idx.now values.now) (topology_check nrows ncols row_word_ptr.now row_word_indices.now row_masks.now structural_nnz column_nrows column_ncols column_word_ptr.now column_word_indices.now column_masks.now column_structural_nnz) matrix_nrows matrix_ncols nrows ncols len words.now (side_holds row_word_ptr.now row_word_indices.now row_masks.now) (stored row_ptr.now col_idx.now)) nrows (in_mask words.now) (side_holds row_word_ptr.now row_word_indices.now row_masks.now) (pair_entries nrows (in_mask words.now) (side_holds row_word_ptr.now row_word_indices.now row_masks.now) row_ptr.now col_idx.now) global_nodes.old local_row_ptr.old local_col_idx.old source_ptr.old source_indices.old) (pair_entries nrows (in_mask words.now) (side_holds row_word_ptr.now row_word_indices.now row_masks.now) row_ptr.now col_idx.now) source_ptr.old }
-    ensures sources { source_indices.new ≡ sources_left (plan_check (plan_inputs (matrix_check matrix_nrows matrix_ncols row_ptr.now col_idx.now values.now) (topology_check nrows ncols row_word_ptr.now row_word_indices.now row_masks.now structural_nnz column_nrows column_ncols column_word_ptr.now column_word_indices.now column_masks.now column_structural_nnz) matrix_nrows matrix_ncols nrows ncols len words.now (side_holds row_word_ptr.now row_word_indices.now row_masks.now) (stored row_ptr.now col_idx.now)) nrows (in_mask words.now) (side_holds row_word_ptr.now row_word_indices.now row_masks.now) (pair_entries nrows (in_mask words.now) (side_holds row_word_ptr.now row_word_indices.now row_masks.now) row_ptr.now col_idx.now) global_nodes.old local_row_ptr.old local_col_idx.old source_ptr.old source_indices.old) (pair_entries nrows (in_mask words.now) (side_holds row_word_ptr.now row_word_indices.now row_masks.now) row_ptr.now col_idx.now) source_indices.old }
+    ensures value { result ≡ (plan_of nrows ncols row_word_ptr.now row_word_indices.now row_masks.now structural_nnz column_nrows column_ncols column_word_ptr.now column_word_indices.now column_masks.now column_structural_nnz matrix_nrows matrix_ncols row_ptr.now col_idx.now values.now len words.now global_nodes.old local_row_ptr.old local_col_idx.old source_ptr.old source_indices.old).answer }
+    ensures members { global_nodes.new ≡ (plan_of nrows ncols row_word_ptr.now row_word_indices.now row_masks.now structural_nnz column_nrows column_ncols column_word_ptr.now column_word_indices.now column_masks.now column_structural_nnz matrix_nrows matrix_ncols row_ptr.now col_idx.now values.now len words.now global_nodes.old local_row_ptr.old local_col_idx.old source_ptr.old source_indices.old).nodes }
+    ensures pointers { local_row_ptr.new ≡ (plan_of nrows ncols row_word_ptr.now row_word_indices.now row_masks.now structural_nnz column_nrows column_ncols column_word_ptr.now column_word_indices.now column_masks.now column_structural_nnz matrix_nrows matrix_ncols row_ptr.now col_idx.now values.now len words.now global_nodes.old local_row_ptr.old local_col_idx.old source_ptr.old source_indices.old).ptr }
+    ensures columns { local_col_idx.new ≡ (plan_of nrows ncols row_word_ptr.now row_word_indices.now row_masks.now structural_nnz column_nrows column_ncols column_word_ptr.now column_word_indices.now column_masks.now column_structural_nnz matrix_nrows matrix_ncols row_ptr.now col_idx.now values.now len words.now global_nodes.old local_row_ptr.old local_col_idx.old source_ptr.old source_indices.old).columns }
+    ensures starts { source_ptr.new ≡ (plan_of nrows ncols row_word_ptr.now row_word_indices.now row_masks.now structural_nnz column_nrows column_ncols column_word_ptr.now column_word_indices.now column_masks.now column_structural_nnz matrix_nrows matrix_ncols row_ptr.now col_idx.now values.now len words.now global_nodes.old local_row_ptr.old local_col_idx.old source_ptr.old source_indices.old).source_ptr }
+    ensures sources { source_indices.new ≡ (plan_of nrows ncols row_word_ptr.now row_word_indices.now row_masks.now structural_nnz column_nrows column_ncols column_word_ptr.now column_word_indices.now column_masks.now column_structural_nnz matrix_nrows matrix_ncols row_ptr.now col_idx.now values.now len words.now global_nodes.old local_row_ptr.old local_col_idx.old source_ptr.old source_indices.old).sources }
 {
     numeric_plan::prepare_local_numeric_plan(
         views::topology(

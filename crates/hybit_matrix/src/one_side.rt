@@ -1,17 +1,14 @@
 // The calls on one side of a topology with flat answers.
 ghost use Rattle.std.specs.Prelude.{◌≡◌, ◌+◌, length};
 ghost use Rattle.csr32.specs.Matrix.{stored};
-ghost use Rattle.word.specs.Answers.{on};
 ghost use Rattle.word.specs.declared.Operation.{Operation};
-ghost use Rattle.side.specs.Side.{side_holds};
 ghost use Rattle.side.specs.Check.{side_check};
 ghost use Rattle.side.specs.Built.{built_ptr, built_words, built_masks};
-ghost use Rattle.side_sets.specs.Sets.{pairwise_pairs};
 ghost use Rattle.topology.specs.Answers.{build_check, sets_check, built_answer, stats_answer};
 ghost use Rattle.hybit_matrix.specs.Flat.{pair_answer_of, flat_of_checked};
-ghost use Rattle.hybit_matrix.specs.FlatTopology.{flat_of_stated, flat_of_built};
+ghost use Rattle.hybit_matrix.specs.FlatTopology.{flat_of_stated, flat_of_built, pairs_by};
 
-use crate::{Answer, Flat, PairAnswer, views};
+use crate::{Answer, Flat, PairAnswer, refused, views};
 use base::Refusal;
 use side::SideCounts;
 use topology::AbtmTopologyStats;
@@ -53,12 +50,7 @@ impl From<Result<AbtmTopologyStats, Refusal>> for TopologyStatsAnswer {
                 metadata_bytes_per_nnz: x.metadata_bytes_per_nnz(),
                 ..Self::default()
             },
-            Err(r) => Self {
-                number: r.number(),
-                expected: r.expected(),
-                actual: r.actual(),
-                ..Self::default()
-            },
+            Err(r) => refused!(r),
         }
     }
 }
@@ -164,10 +156,10 @@ pub fn hybit_topology_intersection(
     word_indices: &mut [u32],
     masks: &mut [u64],
 ) -> PairAnswer
-    ensures value { result ≡ flat_of_built (built_answer (sets_check nrows ncols ptr_a.now words_a.now masks_a.now pairs_a nrows_b ncols_b ptr_b.now words_b.now masks_b.now pairs_b row_word_ptr.old word_indices.old masks.old) nrows ncols (pairwise_pairs (on Operation.Intersection) (side_holds ptr_a.now words_a.now masks_a.now) (side_holds ptr_b.now words_b.now masks_b.now))) }
-    ensures pointers { row_word_ptr.new ≡ built_ptr (sets_check nrows ncols ptr_a.now words_a.now masks_a.now pairs_a nrows_b ncols_b ptr_b.now words_b.now masks_b.now pairs_b row_word_ptr.old word_indices.old masks.old) nrows ncols (pairwise_pairs (on Operation.Intersection) (side_holds ptr_a.now words_a.now masks_a.now) (side_holds ptr_b.now words_b.now masks_b.now)) row_word_ptr.old }
-    ensures words { word_indices.new ≡ built_words (sets_check nrows ncols ptr_a.now words_a.now masks_a.now pairs_a nrows_b ncols_b ptr_b.now words_b.now masks_b.now pairs_b row_word_ptr.old word_indices.old masks.old) nrows ncols (pairwise_pairs (on Operation.Intersection) (side_holds ptr_a.now words_a.now masks_a.now) (side_holds ptr_b.now words_b.now masks_b.now)) (length masks_a.now + length masks_b.now) word_indices.old }
-    ensures masked { masks.new ≡ built_masks (sets_check nrows ncols ptr_a.now words_a.now masks_a.now pairs_a nrows_b ncols_b ptr_b.now words_b.now masks_b.now pairs_b row_word_ptr.old word_indices.old masks.old) nrows ncols (pairwise_pairs (on Operation.Intersection) (side_holds ptr_a.now words_a.now masks_a.now) (side_holds ptr_b.now words_b.now masks_b.now)) (length masks_a.now + length masks_b.now) masks.old }
+    ensures value { result ≡ flat_of_built (built_answer (sets_check nrows ncols ptr_a.now words_a.now masks_a.now pairs_a nrows_b ncols_b ptr_b.now words_b.now masks_b.now pairs_b row_word_ptr.old word_indices.old masks.old) nrows ncols (pairs_by Operation.Intersection ptr_a.now words_a.now masks_a.now ptr_b.now words_b.now masks_b.now)) }
+    ensures pointers { row_word_ptr.new ≡ built_ptr (sets_check nrows ncols ptr_a.now words_a.now masks_a.now pairs_a nrows_b ncols_b ptr_b.now words_b.now masks_b.now pairs_b row_word_ptr.old word_indices.old masks.old) nrows ncols (pairs_by Operation.Intersection ptr_a.now words_a.now masks_a.now ptr_b.now words_b.now masks_b.now) row_word_ptr.old }
+    ensures words { word_indices.new ≡ built_words (sets_check nrows ncols ptr_a.now words_a.now masks_a.now pairs_a nrows_b ncols_b ptr_b.now words_b.now masks_b.now pairs_b row_word_ptr.old word_indices.old masks.old) nrows ncols (pairs_by Operation.Intersection ptr_a.now words_a.now masks_a.now ptr_b.now words_b.now masks_b.now) (length masks_a.now + length masks_b.now) word_indices.old }
+    ensures masked { masks.new ≡ built_masks (sets_check nrows ncols ptr_a.now words_a.now masks_a.now pairs_a nrows_b ncols_b ptr_b.now words_b.now masks_b.now pairs_b row_word_ptr.old word_indices.old masks.old) nrows ncols (pairs_by Operation.Intersection ptr_a.now words_a.now masks_a.now ptr_b.now words_b.now masks_b.now) (length masks_a.now + length masks_b.now) masks.old }
 {
     topology::combine(
         views::side(nrows, ncols, ptr_a, words_a, masks_a, pairs_a),
@@ -198,10 +190,10 @@ pub fn hybit_topology_union(
     word_indices: &mut [u32],
     masks: &mut [u64],
 ) -> PairAnswer
-    ensures value { result ≡ flat_of_built (built_answer (sets_check nrows ncols ptr_a.now words_a.now masks_a.now pairs_a nrows_b ncols_b ptr_b.now words_b.now masks_b.now pairs_b row_word_ptr.old word_indices.old masks.old) nrows ncols (pairwise_pairs (on Operation.Union) (side_holds ptr_a.now words_a.now masks_a.now) (side_holds ptr_b.now words_b.now masks_b.now))) }
-    ensures pointers { row_word_ptr.new ≡ built_ptr (sets_check nrows ncols ptr_a.now words_a.now masks_a.now pairs_a nrows_b ncols_b ptr_b.now words_b.now masks_b.now pairs_b row_word_ptr.old word_indices.old masks.old) nrows ncols (pairwise_pairs (on Operation.Union) (side_holds ptr_a.now words_a.now masks_a.now) (side_holds ptr_b.now words_b.now masks_b.now)) row_word_ptr.old }
-    ensures words { word_indices.new ≡ built_words (sets_check nrows ncols ptr_a.now words_a.now masks_a.now pairs_a nrows_b ncols_b ptr_b.now words_b.now masks_b.now pairs_b row_word_ptr.old word_indices.old masks.old) nrows ncols (pairwise_pairs (on Operation.Union) (side_holds ptr_a.now words_a.now masks_a.now) (side_holds ptr_b.now words_b.now masks_b.now)) (length masks_a.now + length masks_b.now) word_indices.old }
-    ensures masked { masks.new ≡ built_masks (sets_check nrows ncols ptr_a.now words_a.now masks_a.now pairs_a nrows_b ncols_b ptr_b.now words_b.now masks_b.now pairs_b row_word_ptr.old word_indices.old masks.old) nrows ncols (pairwise_pairs (on Operation.Union) (side_holds ptr_a.now words_a.now masks_a.now) (side_holds ptr_b.now words_b.now masks_b.now)) (length masks_a.now + length masks_b.now) masks.old }
+    ensures value { result ≡ flat_of_built (built_answer (sets_check nrows ncols ptr_a.now words_a.now masks_a.now pairs_a nrows_b ncols_b ptr_b.now words_b.now masks_b.now pairs_b row_word_ptr.old word_indices.old masks.old) nrows ncols (pairs_by Operation.Union ptr_a.now words_a.now masks_a.now ptr_b.now words_b.now masks_b.now)) }
+    ensures pointers { row_word_ptr.new ≡ built_ptr (sets_check nrows ncols ptr_a.now words_a.now masks_a.now pairs_a nrows_b ncols_b ptr_b.now words_b.now masks_b.now pairs_b row_word_ptr.old word_indices.old masks.old) nrows ncols (pairs_by Operation.Union ptr_a.now words_a.now masks_a.now ptr_b.now words_b.now masks_b.now) row_word_ptr.old }
+    ensures words { word_indices.new ≡ built_words (sets_check nrows ncols ptr_a.now words_a.now masks_a.now pairs_a nrows_b ncols_b ptr_b.now words_b.now masks_b.now pairs_b row_word_ptr.old word_indices.old masks.old) nrows ncols (pairs_by Operation.Union ptr_a.now words_a.now masks_a.now ptr_b.now words_b.now masks_b.now) (length masks_a.now + length masks_b.now) word_indices.old }
+    ensures masked { masks.new ≡ built_masks (sets_check nrows ncols ptr_a.now words_a.now masks_a.now pairs_a nrows_b ncols_b ptr_b.now words_b.now masks_b.now pairs_b row_word_ptr.old word_indices.old masks.old) nrows ncols (pairs_by Operation.Union ptr_a.now words_a.now masks_a.now ptr_b.now words_b.now masks_b.now) (length masks_a.now + length masks_b.now) masks.old }
 {
     topology::combine(
         views::side(nrows, ncols, ptr_a, words_a, masks_a, pairs_a),
@@ -232,10 +224,10 @@ pub fn hybit_topology_and_not(
     word_indices: &mut [u32],
     masks: &mut [u64],
 ) -> PairAnswer
-    ensures value { result ≡ flat_of_built (built_answer (sets_check nrows ncols ptr_a.now words_a.now masks_a.now pairs_a nrows_b ncols_b ptr_b.now words_b.now masks_b.now pairs_b row_word_ptr.old word_indices.old masks.old) nrows ncols (pairwise_pairs (on Operation.AndNot) (side_holds ptr_a.now words_a.now masks_a.now) (side_holds ptr_b.now words_b.now masks_b.now))) }
-    ensures pointers { row_word_ptr.new ≡ built_ptr (sets_check nrows ncols ptr_a.now words_a.now masks_a.now pairs_a nrows_b ncols_b ptr_b.now words_b.now masks_b.now pairs_b row_word_ptr.old word_indices.old masks.old) nrows ncols (pairwise_pairs (on Operation.AndNot) (side_holds ptr_a.now words_a.now masks_a.now) (side_holds ptr_b.now words_b.now masks_b.now)) row_word_ptr.old }
-    ensures words { word_indices.new ≡ built_words (sets_check nrows ncols ptr_a.now words_a.now masks_a.now pairs_a nrows_b ncols_b ptr_b.now words_b.now masks_b.now pairs_b row_word_ptr.old word_indices.old masks.old) nrows ncols (pairwise_pairs (on Operation.AndNot) (side_holds ptr_a.now words_a.now masks_a.now) (side_holds ptr_b.now words_b.now masks_b.now)) (length masks_a.now + length masks_b.now) word_indices.old }
-    ensures masked { masks.new ≡ built_masks (sets_check nrows ncols ptr_a.now words_a.now masks_a.now pairs_a nrows_b ncols_b ptr_b.now words_b.now masks_b.now pairs_b row_word_ptr.old word_indices.old masks.old) nrows ncols (pairwise_pairs (on Operation.AndNot) (side_holds ptr_a.now words_a.now masks_a.now) (side_holds ptr_b.now words_b.now masks_b.now)) (length masks_a.now + length masks_b.now) masks.old }
+    ensures value { result ≡ flat_of_built (built_answer (sets_check nrows ncols ptr_a.now words_a.now masks_a.now pairs_a nrows_b ncols_b ptr_b.now words_b.now masks_b.now pairs_b row_word_ptr.old word_indices.old masks.old) nrows ncols (pairs_by Operation.AndNot ptr_a.now words_a.now masks_a.now ptr_b.now words_b.now masks_b.now)) }
+    ensures pointers { row_word_ptr.new ≡ built_ptr (sets_check nrows ncols ptr_a.now words_a.now masks_a.now pairs_a nrows_b ncols_b ptr_b.now words_b.now masks_b.now pairs_b row_word_ptr.old word_indices.old masks.old) nrows ncols (pairs_by Operation.AndNot ptr_a.now words_a.now masks_a.now ptr_b.now words_b.now masks_b.now) row_word_ptr.old }
+    ensures words { word_indices.new ≡ built_words (sets_check nrows ncols ptr_a.now words_a.now masks_a.now pairs_a nrows_b ncols_b ptr_b.now words_b.now masks_b.now pairs_b row_word_ptr.old word_indices.old masks.old) nrows ncols (pairs_by Operation.AndNot ptr_a.now words_a.now masks_a.now ptr_b.now words_b.now masks_b.now) (length masks_a.now + length masks_b.now) word_indices.old }
+    ensures masked { masks.new ≡ built_masks (sets_check nrows ncols ptr_a.now words_a.now masks_a.now pairs_a nrows_b ncols_b ptr_b.now words_b.now masks_b.now pairs_b row_word_ptr.old word_indices.old masks.old) nrows ncols (pairs_by Operation.AndNot ptr_a.now words_a.now masks_a.now ptr_b.now words_b.now masks_b.now) (length masks_a.now + length masks_b.now) masks.old }
 {
     topology::combine(
         views::side(nrows, ncols, ptr_a, words_a, masks_a, pairs_a),
@@ -266,10 +258,10 @@ pub fn hybit_topology_xor(
     word_indices: &mut [u32],
     masks: &mut [u64],
 ) -> PairAnswer
-    ensures value { result ≡ flat_of_built (built_answer (sets_check nrows ncols ptr_a.now words_a.now masks_a.now pairs_a nrows_b ncols_b ptr_b.now words_b.now masks_b.now pairs_b row_word_ptr.old word_indices.old masks.old) nrows ncols (pairwise_pairs (on Operation.Xor) (side_holds ptr_a.now words_a.now masks_a.now) (side_holds ptr_b.now words_b.now masks_b.now))) }
-    ensures pointers { row_word_ptr.new ≡ built_ptr (sets_check nrows ncols ptr_a.now words_a.now masks_a.now pairs_a nrows_b ncols_b ptr_b.now words_b.now masks_b.now pairs_b row_word_ptr.old word_indices.old masks.old) nrows ncols (pairwise_pairs (on Operation.Xor) (side_holds ptr_a.now words_a.now masks_a.now) (side_holds ptr_b.now words_b.now masks_b.now)) row_word_ptr.old }
-    ensures words { word_indices.new ≡ built_words (sets_check nrows ncols ptr_a.now words_a.now masks_a.now pairs_a nrows_b ncols_b ptr_b.now words_b.now masks_b.now pairs_b row_word_ptr.old word_indices.old masks.old) nrows ncols (pairwise_pairs (on Operation.Xor) (side_holds ptr_a.now words_a.now masks_a.now) (side_holds ptr_b.now words_b.now masks_b.now)) (length masks_a.now + length masks_b.now) word_indices.old }
-    ensures masked { masks.new ≡ built_masks (sets_check nrows ncols ptr_a.now words_a.now masks_a.now pairs_a nrows_b ncols_b ptr_b.now words_b.now masks_b.now pairs_b row_word_ptr.old word_indices.old masks.old) nrows ncols (pairwise_pairs (on Operation.Xor) (side_holds ptr_a.now words_a.now masks_a.now) (side_holds ptr_b.now words_b.now masks_b.now)) (length masks_a.now + length masks_b.now) masks.old }
+    ensures value { result ≡ flat_of_built (built_answer (sets_check nrows ncols ptr_a.now words_a.now masks_a.now pairs_a nrows_b ncols_b ptr_b.now words_b.now masks_b.now pairs_b row_word_ptr.old word_indices.old masks.old) nrows ncols (pairs_by Operation.Xor ptr_a.now words_a.now masks_a.now ptr_b.now words_b.now masks_b.now)) }
+    ensures pointers { row_word_ptr.new ≡ built_ptr (sets_check nrows ncols ptr_a.now words_a.now masks_a.now pairs_a nrows_b ncols_b ptr_b.now words_b.now masks_b.now pairs_b row_word_ptr.old word_indices.old masks.old) nrows ncols (pairs_by Operation.Xor ptr_a.now words_a.now masks_a.now ptr_b.now words_b.now masks_b.now) row_word_ptr.old }
+    ensures words { word_indices.new ≡ built_words (sets_check nrows ncols ptr_a.now words_a.now masks_a.now pairs_a nrows_b ncols_b ptr_b.now words_b.now masks_b.now pairs_b row_word_ptr.old word_indices.old masks.old) nrows ncols (pairs_by Operation.Xor ptr_a.now words_a.now masks_a.now ptr_b.now words_b.now masks_b.now) (length masks_a.now + length masks_b.now) word_indices.old }
+    ensures masked { masks.new ≡ built_masks (sets_check nrows ncols ptr_a.now words_a.now masks_a.now pairs_a nrows_b ncols_b ptr_b.now words_b.now masks_b.now pairs_b row_word_ptr.old word_indices.old masks.old) nrows ncols (pairs_by Operation.Xor ptr_a.now words_a.now masks_a.now ptr_b.now words_b.now masks_b.now) (length masks_a.now + length masks_b.now) masks.old }
 {
     topology::combine(
         views::side(nrows, ncols, ptr_a, words_a, masks_a, pairs_a),

@@ -1,21 +1,15 @@
 // A prepared region, its block owners and the job program with flat answers.
-ghost use Rattle.std.specs.Prelude.{◌≡◌, ◌+◌, length};
-ghost use Rattle.csr32.specs.Matrix.{matrix_check, stored};
-ghost use Rattle.dof_layout.specs.Layout.{total_of};
+ghost use Rattle.std.specs.Prelude.{◌≡◌, Ok};
+ghost use Rattle.csr32.specs.Matrix.{matrix_check};
 ghost use Rattle.dof_layout.specs.Answers.{square_check};
-ghost use Rattle.side.specs.Side.{flip};
-ghost use Rattle.side.specs.Built.{built_ptr, built_words, built_masks};
-ghost use Rattle.dual_topology.specs.Answers.{scratch as zeros};
-ghost use Rattle.growth.specs.Lent.{region_left, frontier_left, scratch_left};
 ghost use Rattle.field_region.specs.Owners.{owners_check, owners_answer, owners_list};
-ghost use Rattle.cutting.specs.Cut.{network_of, region_of, lists_of};
-ghost use Rattle.prepared_field_region.specs.Prepared.{prepare_room, prepare_inputs, prepare_check, block_owners_check, prepared_of, prepare_answer, prepared_nodes, prepared_ptr, prepared_columns, prepared_source_ptr, prepared_sources};
+ghost use Rattle.prepared_field_region.specs.Prepared.{block_owners_check};
 ghost use Rattle.job_text.specs.Answer.{text_answer, text_left};
 ghost use Rattle.peak_job.specs.Answer.{answer_text};
 ghost use Rattle.hybit_matrix.specs.Flat.{flat_of_counted};
-ghost use Rattle.hybit_matrix.specs.FlatPrepared.{flat_of_prepared};
+ghost use Rattle.hybit_matrix.specs.FlatPrepared.{flat_of_prepared, prepared_region};
 
-use crate::{Answer, views};
+use crate::{Answer, Flat, refused, views};
 use base::Refusal;
 use prepared_field_region::PreparedFieldAwareLocalRegion;
 
@@ -62,61 +56,59 @@ pub struct PreparedAnswer {
     pub plan_bytes: u32,
 }
 
+// By `Flat`, where the other records of statistics have `From` alone: with so many fields that one function would have more than 40 lines.
+impl Flat<PreparedAnswer> for PreparedFieldAwareLocalRegion {
+    ghost flat_record = { λ x. flat_of_prepared (Ok x) };
+
+    #[tactic(auto, unfolding(crate::specs::FlatPrepared::flat_of_prepared))]
+    fn flat(self) -> PreparedAnswer {
+        PreparedAnswer {
+            present: true,
+            row_words: self.counts.row_words,
+            column_words: self.counts.column_words,
+            pairs: self.counts.pairs,
+            topology_nrows: self.topology.nrows,
+            topology_ncols: self.topology.ncols,
+            structural_nnz: self.topology.structural_nnz,
+            row_metadata_bytes: self.topology.row_metadata_bytes,
+            column_metadata_bytes: self.topology.column_metadata_bytes,
+            hops_requested: self.growth.hops_requested,
+            hops_completed: self.growth.hops_completed,
+            seed_dofs: self.growth.seed_dofs,
+            block_closed_seed_dofs: self.growth.block_closed_seed_dofs,
+            region_dofs: self.growth.region_dofs,
+            region_blocks: self.growth.region_blocks,
+            frontier_dofs_visited: self.growth.frontier_dofs_visited,
+            row_words_visited: self.growth.row_words_visited,
+            column_words_visited: self.growth.column_words_visited,
+            candidate_neighbor_bits: self.growth.candidate_neighbor_bits,
+            global_nodes: self.pattern.global_nodes,
+            local_nodes: self.pattern.local_nodes,
+            local_nnz: self.pattern.local_nnz,
+            topology_words_visited: self.pattern.topology_words_visited,
+            pattern_candidate_bits: self.pattern.candidate_neighbor_bits,
+            kept_neighbor_bits: self.pattern.kept_neighbor_bits,
+            mapping_scratch_bytes: self.pattern.mapping_scratch_bytes,
+            pattern_bytes: self.pattern.pattern_bytes,
+            plan_local_nodes: self.numeric_plan.local_nodes,
+            plan_local_nnz: self.numeric_plan.local_nnz,
+            source_terms: self.numeric_plan.source_terms,
+            duplicate_source_terms: self.numeric_plan.duplicate_source_terms,
+            direct_source_map: self.numeric_plan.direct_source_map,
+            plan_bytes: self.numeric_plan.plan_bytes,
+            ..PreparedAnswer::default()
+        }
+    }
+}
+
 impl From<Result<PreparedFieldAwareLocalRegion, Refusal>> for PreparedAnswer {
     ghost from_gives = { λ r a. a ≡ flat_of_prepared r };
 
     #[tactic(auto, unfolding(crate::specs::FlatPrepared::flat_of_prepared))]
     fn from(s: Result<PreparedFieldAwareLocalRegion, Refusal>) -> Self {
         match s {
-            Ok(x) => {
-                let counts = x.counts;
-                let topology = x.topology;
-                let growth = x.growth;
-                let pattern = x.pattern;
-                let numeric_plan = x.numeric_plan;
-                Self {
-                    present: true,
-                    row_words: counts.row_words,
-                    column_words: counts.column_words,
-                    pairs: counts.pairs,
-                    topology_nrows: topology.nrows,
-                    topology_ncols: topology.ncols,
-                    structural_nnz: topology.structural_nnz,
-                    row_metadata_bytes: topology.row_metadata_bytes,
-                    column_metadata_bytes: topology.column_metadata_bytes,
-                    hops_requested: growth.hops_requested,
-                    hops_completed: growth.hops_completed,
-                    seed_dofs: growth.seed_dofs,
-                    block_closed_seed_dofs: growth.block_closed_seed_dofs,
-                    region_dofs: growth.region_dofs,
-                    region_blocks: growth.region_blocks,
-                    frontier_dofs_visited: growth.frontier_dofs_visited,
-                    row_words_visited: growth.row_words_visited,
-                    column_words_visited: growth.column_words_visited,
-                    candidate_neighbor_bits: growth.candidate_neighbor_bits,
-                    global_nodes: pattern.global_nodes,
-                    local_nodes: pattern.local_nodes,
-                    local_nnz: pattern.local_nnz,
-                    topology_words_visited: pattern.topology_words_visited,
-                    pattern_candidate_bits: pattern.candidate_neighbor_bits,
-                    kept_neighbor_bits: pattern.kept_neighbor_bits,
-                    mapping_scratch_bytes: pattern.mapping_scratch_bytes,
-                    pattern_bytes: pattern.pattern_bytes,
-                    plan_local_nodes: numeric_plan.local_nodes,
-                    plan_local_nnz: numeric_plan.local_nnz,
-                    source_terms: numeric_plan.source_terms,
-                    duplicate_source_terms: numeric_plan.duplicate_source_terms,
-                    direct_source_map: numeric_plan.direct_source_map,
-                    plan_bytes: numeric_plan.plan_bytes,
-                    ..Self::default()
-                }
-            }
-            Err(r) => Self {
-                number: r.number(),
-                expected: r.expected(),
-                actual: r.actual(),
-                ..Self::default()
-            },
+            Ok(x) => x.flat(),
+            Err(r) => refused!(r),
         }
     }
 }
@@ -155,23 +147,23 @@ pub fn hybit_prepare_region(
     source_ptr: &mut [u32],
     source_indices: &mut [u32],
 ) -> PreparedAnswer
-    ensures value { result ≡ flat_of_prepared (prepare_answer (prepare_check (prepare_inputs (matrix_check nrows ncols row_ptr.now col_idx.now values.now) (square_check entity_kinds.now entity_ids.now field_ids.now components.now offsets.now nrows ncols) nrows len words.now) (prepare_room nrows ncols (length col_idx.now) (length row_word_ptr.old) (length row_word_indices.old) (length row_masks.old) (length column_word_ptr.old) (length column_word_indices.old) (length column_masks.old) (length starts.old) (length order.old) (length region.old) (length frontier.old) (length scratch.old) (length global_nodes.old) (length local_row_ptr.old) (length local_col_idx.old) (length source_ptr.old) (length source_indices.old))) (prepared_of nrows ncols row_ptr.now col_idx.now components.now words.now hops)) }
-    ensures row_pointers { row_word_ptr.new ≡ built_ptr (prepare_check (prepare_inputs (matrix_check nrows ncols row_ptr.now col_idx.now values.now) (square_check entity_kinds.now entity_ids.now field_ids.now components.now offsets.now nrows ncols) nrows len words.now) (prepare_room nrows ncols (length col_idx.now) (length row_word_ptr.old) (length row_word_indices.old) (length row_masks.old) (length column_word_ptr.old) (length column_word_indices.old) (length column_masks.old) (length starts.old) (length order.old) (length region.old) (length frontier.old) (length scratch.old) (length global_nodes.old) (length local_row_ptr.old) (length local_col_idx.old) (length source_ptr.old) (length source_indices.old))) nrows ncols (stored row_ptr.now col_idx.now) row_word_ptr.old }
-    ensures row_words { row_word_indices.new ≡ built_words (prepare_check (prepare_inputs (matrix_check nrows ncols row_ptr.now col_idx.now values.now) (square_check entity_kinds.now entity_ids.now field_ids.now components.now offsets.now nrows ncols) nrows len words.now) (prepare_room nrows ncols (length col_idx.now) (length row_word_ptr.old) (length row_word_indices.old) (length row_masks.old) (length column_word_ptr.old) (length column_word_indices.old) (length column_masks.old) (length starts.old) (length order.old) (length region.old) (length frontier.old) (length scratch.old) (length global_nodes.old) (length local_row_ptr.old) (length local_col_idx.old) (length source_ptr.old) (length source_indices.old))) nrows ncols (stored row_ptr.now col_idx.now) (length col_idx.now) row_word_indices.old }
-    ensures row_masked { row_masks.new ≡ built_masks (prepare_check (prepare_inputs (matrix_check nrows ncols row_ptr.now col_idx.now values.now) (square_check entity_kinds.now entity_ids.now field_ids.now components.now offsets.now nrows ncols) nrows len words.now) (prepare_room nrows ncols (length col_idx.now) (length row_word_ptr.old) (length row_word_indices.old) (length row_masks.old) (length column_word_ptr.old) (length column_word_indices.old) (length column_masks.old) (length starts.old) (length order.old) (length region.old) (length frontier.old) (length scratch.old) (length global_nodes.old) (length local_row_ptr.old) (length local_col_idx.old) (length source_ptr.old) (length source_indices.old))) nrows ncols (stored row_ptr.now col_idx.now) (length col_idx.now) row_masks.old }
-    ensures column_pointers { column_word_ptr.new ≡ built_ptr (prepare_check (prepare_inputs (matrix_check nrows ncols row_ptr.now col_idx.now values.now) (square_check entity_kinds.now entity_ids.now field_ids.now components.now offsets.now nrows ncols) nrows len words.now) (prepare_room nrows ncols (length col_idx.now) (length row_word_ptr.old) (length row_word_indices.old) (length row_masks.old) (length column_word_ptr.old) (length column_word_indices.old) (length column_masks.old) (length starts.old) (length order.old) (length region.old) (length frontier.old) (length scratch.old) (length global_nodes.old) (length local_row_ptr.old) (length local_col_idx.old) (length source_ptr.old) (length source_indices.old))) ncols nrows (flip (stored row_ptr.now col_idx.now)) column_word_ptr.old }
-    ensures column_words { column_word_indices.new ≡ built_words (prepare_check (prepare_inputs (matrix_check nrows ncols row_ptr.now col_idx.now values.now) (square_check entity_kinds.now entity_ids.now field_ids.now components.now offsets.now nrows ncols) nrows len words.now) (prepare_room nrows ncols (length col_idx.now) (length row_word_ptr.old) (length row_word_indices.old) (length row_masks.old) (length column_word_ptr.old) (length column_word_indices.old) (length column_masks.old) (length starts.old) (length order.old) (length region.old) (length frontier.old) (length scratch.old) (length global_nodes.old) (length local_row_ptr.old) (length local_col_idx.old) (length source_ptr.old) (length source_indices.old))) ncols nrows (flip (stored row_ptr.now col_idx.now)) (length col_idx.now) column_word_indices.old }
-    ensures column_masked { column_masks.new ≡ built_masks (prepare_check (prepare_inputs (matrix_check nrows ncols row_ptr.now col_idx.now values.now) (square_check entity_kinds.now entity_ids.now field_ids.now components.now offsets.now nrows ncols) nrows len words.now) (prepare_room nrows ncols (length col_idx.now) (length row_word_ptr.old) (length row_word_indices.old) (length row_masks.old) (length column_word_ptr.old) (length column_word_indices.old) (length column_masks.old) (length starts.old) (length order.old) (length region.old) (length frontier.old) (length scratch.old) (length global_nodes.old) (length local_row_ptr.old) (length local_col_idx.old) (length source_ptr.old) (length source_indices.old))) ncols nrows (flip (stored row_ptr.now col_idx.now)) (length col_idx.now) column_masks.old }
-    ensures scratch_starts { starts.new ≡ zeros (prepare_check (prepare_inputs (matrix_check nrows ncols row_ptr.now col_idx.now values.now) (square_check entity_kinds.now entity_ids.now field_ids.now components.now offsets.now nrows ncols) nrows len words.now) (prepare_room nrows ncols (length col_idx.now) (length row_word_ptr.old) (length row_word_indices.old) (length row_masks.old) (length column_word_ptr.old) (length column_word_indices.old) (length column_masks.old) (length starts.old) (length order.old) (length region.old) (length frontier.old) (length scratch.old) (length global_nodes.old) (length local_row_ptr.old) (length local_col_idx.old) (length source_ptr.old) (length source_indices.old))) (ncols + 1) starts.old }
-    ensures scratch_order { order.new ≡ zeros (prepare_check (prepare_inputs (matrix_check nrows ncols row_ptr.now col_idx.now values.now) (square_check entity_kinds.now entity_ids.now field_ids.now components.now offsets.now nrows ncols) nrows len words.now) (prepare_room nrows ncols (length col_idx.now) (length row_word_ptr.old) (length row_word_indices.old) (length row_masks.old) (length column_word_ptr.old) (length column_word_indices.old) (length column_masks.old) (length starts.old) (length order.old) (length region.old) (length frontier.old) (length scratch.old) (length global_nodes.old) (length local_row_ptr.old) (length local_col_idx.old) (length source_ptr.old) (length source_indices.old))) (length col_idx.now) order.old }
-    ensures inside { region.new ≡ region_left (prepare_check (prepare_inputs (matrix_check nrows ncols row_ptr.now col_idx.now values.now) (square_check entity_kinds.now entity_ids.now field_ids.now components.now offsets.now nrows ncols) nrows len words.now) (prepare_room nrows ncols (length col_idx.now) (length row_word_ptr.old) (length row_word_indices.old) (length row_masks.old) (length column_word_ptr.old) (length column_word_indices.old) (length column_masks.old) (length starts.old) (length order.old) (length region.old) (length frontier.old) (length scratch.old) (length global_nodes.old) (length local_row_ptr.old) (length local_col_idx.old) (length source_ptr.old) (length source_indices.old))) (network_of row_ptr.now col_idx.now components.now) words.now hops region.old }
-    ensures edge { frontier.new ≡ frontier_left (prepare_check (prepare_inputs (matrix_check nrows ncols row_ptr.now col_idx.now values.now) (square_check entity_kinds.now entity_ids.now field_ids.now components.now offsets.now nrows ncols) nrows len words.now) (prepare_room nrows ncols (length col_idx.now) (length row_word_ptr.old) (length row_word_indices.old) (length row_masks.old) (length column_word_ptr.old) (length column_word_indices.old) (length column_masks.old) (length starts.old) (length order.old) (length region.old) (length frontier.old) (length scratch.old) (length global_nodes.old) (length local_row_ptr.old) (length local_col_idx.old) (length source_ptr.old) (length source_indices.old))) (network_of row_ptr.now col_idx.now components.now) words.now hops frontier.old }
-    ensures spent { scratch.new ≡ scratch_left (prepare_check (prepare_inputs (matrix_check nrows ncols row_ptr.now col_idx.now values.now) (square_check entity_kinds.now entity_ids.now field_ids.now components.now offsets.now nrows ncols) nrows len words.now) (prepare_room nrows ncols (length col_idx.now) (length row_word_ptr.old) (length row_word_indices.old) (length row_masks.old) (length column_word_ptr.old) (length column_word_indices.old) (length column_masks.old) (length starts.old) (length order.old) (length region.old) (length frontier.old) (length scratch.old) (length global_nodes.old) (length local_row_ptr.old) (length local_col_idx.old) (length source_ptr.old) (length source_indices.old))) (total_of components.now) scratch.old }
-    ensures members { global_nodes.new ≡ prepared_nodes (prepare_check (prepare_inputs (matrix_check nrows ncols row_ptr.now col_idx.now values.now) (square_check entity_kinds.now entity_ids.now field_ids.now components.now offsets.now nrows ncols) nrows len words.now) (prepare_room nrows ncols (length col_idx.now) (length row_word_ptr.old) (length row_word_indices.old) (length row_masks.old) (length column_word_ptr.old) (length column_word_indices.old) (length column_masks.old) (length starts.old) (length order.old) (length region.old) (length frontier.old) (length scratch.old) (length global_nodes.old) (length local_row_ptr.old) (length local_col_idx.old) (length source_ptr.old) (length source_indices.old))) nrows (region_of row_ptr.now col_idx.now components.now words.now hops) global_nodes.old }
-    ensures pointers { local_row_ptr.new ≡ prepared_ptr (prepare_check (prepare_inputs (matrix_check nrows ncols row_ptr.now col_idx.now values.now) (square_check entity_kinds.now entity_ids.now field_ids.now components.now offsets.now nrows ncols) nrows len words.now) (prepare_room nrows ncols (length col_idx.now) (length row_word_ptr.old) (length row_word_indices.old) (length row_masks.old) (length column_word_ptr.old) (length column_word_indices.old) (length column_masks.old) (length starts.old) (length order.old) (length region.old) (length frontier.old) (length scratch.old) (length global_nodes.old) (length local_row_ptr.old) (length local_col_idx.old) (length source_ptr.old) (length source_indices.old))) nrows (region_of row_ptr.now col_idx.now components.now words.now hops) (stored row_ptr.now col_idx.now) local_row_ptr.old }
-    ensures columns { local_col_idx.new ≡ prepared_columns (prepare_check (prepare_inputs (matrix_check nrows ncols row_ptr.now col_idx.now values.now) (square_check entity_kinds.now entity_ids.now field_ids.now components.now offsets.now nrows ncols) nrows len words.now) (prepare_room nrows ncols (length col_idx.now) (length row_word_ptr.old) (length row_word_indices.old) (length row_masks.old) (length column_word_ptr.old) (length column_word_indices.old) (length column_masks.old) (length starts.old) (length order.old) (length region.old) (length frontier.old) (length scratch.old) (length global_nodes.old) (length local_row_ptr.old) (length local_col_idx.old) (length source_ptr.old) (length source_indices.old))) nrows (region_of row_ptr.now col_idx.now components.now words.now hops) (stored row_ptr.now col_idx.now) (length col_idx.now) local_col_idx.old }
-    ensures source_pointers { source_ptr.new ≡ prepared_source_ptr (prepare_check (prepare_inputs (matrix_check nrows ncols row_ptr.now col_idx.now values.now) (square_check entity_kinds.now entity_ids.now field_ids.now components.now offsets.now nrows ncols) nrows len words.now) (prepare_room nrows ncols (length col_idx.now) (length row_word_ptr.old) (length row_word_indices.old) (length row_masks.old) (length column_word_ptr.old) (length column_word_indices.old) (length column_masks.old) (length starts.old) (length order.old) (length region.old) (length frontier.old) (length scratch.old) (length global_nodes.old) (length local_row_ptr.old) (length local_col_idx.old) (length source_ptr.old) (length source_indices.old))) (lists_of nrows (region_of row_ptr.now col_idx.now components.now words.now hops) row_ptr.now col_idx.now) (length col_idx.now) source_ptr.old }
-    ensures sources { source_indices.new ≡ prepared_sources (prepare_check (prepare_inputs (matrix_check nrows ncols row_ptr.now col_idx.now values.now) (square_check entity_kinds.now entity_ids.now field_ids.now components.now offsets.now nrows ncols) nrows len words.now) (prepare_room nrows ncols (length col_idx.now) (length row_word_ptr.old) (length row_word_indices.old) (length row_masks.old) (length column_word_ptr.old) (length column_word_indices.old) (length column_masks.old) (length starts.old) (length order.old) (length region.old) (length frontier.old) (length scratch.old) (length global_nodes.old) (length local_row_ptr.old) (length local_col_idx.old) (length source_ptr.old) (length source_indices.old))) (lists_of nrows (region_of row_ptr.now col_idx.now components.now words.now hops) row_ptr.now col_idx.now) (length col_idx.now) source_indices.old }
+    ensures value { result ≡ (prepared_region nrows ncols row_ptr.now col_idx.now values.now entity_kinds.now entity_ids.now field_ids.now components.now offsets.now len words.now hops row_word_ptr.old row_word_indices.old row_masks.old column_word_ptr.old column_word_indices.old column_masks.old starts.old order.old region.old frontier.old scratch.old global_nodes.old local_row_ptr.old local_col_idx.old source_ptr.old source_indices.old).answer }
+    ensures row_pointers { row_word_ptr.new ≡ (prepared_region nrows ncols row_ptr.now col_idx.now values.now entity_kinds.now entity_ids.now field_ids.now components.now offsets.now len words.now hops row_word_ptr.old row_word_indices.old row_masks.old column_word_ptr.old column_word_indices.old column_masks.old starts.old order.old region.old frontier.old scratch.old global_nodes.old local_row_ptr.old local_col_idx.old source_ptr.old source_indices.old).row_word_ptr }
+    ensures row_words { row_word_indices.new ≡ (prepared_region nrows ncols row_ptr.now col_idx.now values.now entity_kinds.now entity_ids.now field_ids.now components.now offsets.now len words.now hops row_word_ptr.old row_word_indices.old row_masks.old column_word_ptr.old column_word_indices.old column_masks.old starts.old order.old region.old frontier.old scratch.old global_nodes.old local_row_ptr.old local_col_idx.old source_ptr.old source_indices.old).row_word_indices }
+    ensures row_masked { row_masks.new ≡ (prepared_region nrows ncols row_ptr.now col_idx.now values.now entity_kinds.now entity_ids.now field_ids.now components.now offsets.now len words.now hops row_word_ptr.old row_word_indices.old row_masks.old column_word_ptr.old column_word_indices.old column_masks.old starts.old order.old region.old frontier.old scratch.old global_nodes.old local_row_ptr.old local_col_idx.old source_ptr.old source_indices.old).row_masks }
+    ensures column_pointers { column_word_ptr.new ≡ (prepared_region nrows ncols row_ptr.now col_idx.now values.now entity_kinds.now entity_ids.now field_ids.now components.now offsets.now len words.now hops row_word_ptr.old row_word_indices.old row_masks.old column_word_ptr.old column_word_indices.old column_masks.old starts.old order.old region.old frontier.old scratch.old global_nodes.old local_row_ptr.old local_col_idx.old source_ptr.old source_indices.old).column_word_ptr }
+    ensures column_words { column_word_indices.new ≡ (prepared_region nrows ncols row_ptr.now col_idx.now values.now entity_kinds.now entity_ids.now field_ids.now components.now offsets.now len words.now hops row_word_ptr.old row_word_indices.old row_masks.old column_word_ptr.old column_word_indices.old column_masks.old starts.old order.old region.old frontier.old scratch.old global_nodes.old local_row_ptr.old local_col_idx.old source_ptr.old source_indices.old).column_word_indices }
+    ensures column_masked { column_masks.new ≡ (prepared_region nrows ncols row_ptr.now col_idx.now values.now entity_kinds.now entity_ids.now field_ids.now components.now offsets.now len words.now hops row_word_ptr.old row_word_indices.old row_masks.old column_word_ptr.old column_word_indices.old column_masks.old starts.old order.old region.old frontier.old scratch.old global_nodes.old local_row_ptr.old local_col_idx.old source_ptr.old source_indices.old).column_masks }
+    ensures scratch_starts { starts.new ≡ (prepared_region nrows ncols row_ptr.now col_idx.now values.now entity_kinds.now entity_ids.now field_ids.now components.now offsets.now len words.now hops row_word_ptr.old row_word_indices.old row_masks.old column_word_ptr.old column_word_indices.old column_masks.old starts.old order.old region.old frontier.old scratch.old global_nodes.old local_row_ptr.old local_col_idx.old source_ptr.old source_indices.old).starts }
+    ensures scratch_order { order.new ≡ (prepared_region nrows ncols row_ptr.now col_idx.now values.now entity_kinds.now entity_ids.now field_ids.now components.now offsets.now len words.now hops row_word_ptr.old row_word_indices.old row_masks.old column_word_ptr.old column_word_indices.old column_masks.old starts.old order.old region.old frontier.old scratch.old global_nodes.old local_row_ptr.old local_col_idx.old source_ptr.old source_indices.old).order }
+    ensures inside { region.new ≡ (prepared_region nrows ncols row_ptr.now col_idx.now values.now entity_kinds.now entity_ids.now field_ids.now components.now offsets.now len words.now hops row_word_ptr.old row_word_indices.old row_masks.old column_word_ptr.old column_word_indices.old column_masks.old starts.old order.old region.old frontier.old scratch.old global_nodes.old local_row_ptr.old local_col_idx.old source_ptr.old source_indices.old).region }
+    ensures edge { frontier.new ≡ (prepared_region nrows ncols row_ptr.now col_idx.now values.now entity_kinds.now entity_ids.now field_ids.now components.now offsets.now len words.now hops row_word_ptr.old row_word_indices.old row_masks.old column_word_ptr.old column_word_indices.old column_masks.old starts.old order.old region.old frontier.old scratch.old global_nodes.old local_row_ptr.old local_col_idx.old source_ptr.old source_indices.old).frontier }
+    ensures spent { scratch.new ≡ (prepared_region nrows ncols row_ptr.now col_idx.now values.now entity_kinds.now entity_ids.now field_ids.now components.now offsets.now len words.now hops row_word_ptr.old row_word_indices.old row_masks.old column_word_ptr.old column_word_indices.old column_masks.old starts.old order.old region.old frontier.old scratch.old global_nodes.old local_row_ptr.old local_col_idx.old source_ptr.old source_indices.old).scratch }
+    ensures members { global_nodes.new ≡ (prepared_region nrows ncols row_ptr.now col_idx.now values.now entity_kinds.now entity_ids.now field_ids.now components.now offsets.now len words.now hops row_word_ptr.old row_word_indices.old row_masks.old column_word_ptr.old column_word_indices.old column_masks.old starts.old order.old region.old frontier.old scratch.old global_nodes.old local_row_ptr.old local_col_idx.old source_ptr.old source_indices.old).global_nodes }
+    ensures pointers { local_row_ptr.new ≡ (prepared_region nrows ncols row_ptr.now col_idx.now values.now entity_kinds.now entity_ids.now field_ids.now components.now offsets.now len words.now hops row_word_ptr.old row_word_indices.old row_masks.old column_word_ptr.old column_word_indices.old column_masks.old starts.old order.old region.old frontier.old scratch.old global_nodes.old local_row_ptr.old local_col_idx.old source_ptr.old source_indices.old).local_row_ptr }
+    ensures columns { local_col_idx.new ≡ (prepared_region nrows ncols row_ptr.now col_idx.now values.now entity_kinds.now entity_ids.now field_ids.now components.now offsets.now len words.now hops row_word_ptr.old row_word_indices.old row_masks.old column_word_ptr.old column_word_indices.old column_masks.old starts.old order.old region.old frontier.old scratch.old global_nodes.old local_row_ptr.old local_col_idx.old source_ptr.old source_indices.old).local_col_idx }
+    ensures source_pointers { source_ptr.new ≡ (prepared_region nrows ncols row_ptr.now col_idx.now values.now entity_kinds.now entity_ids.now field_ids.now components.now offsets.now len words.now hops row_word_ptr.old row_word_indices.old row_masks.old column_word_ptr.old column_word_indices.old column_masks.old starts.old order.old region.old frontier.old scratch.old global_nodes.old local_row_ptr.old local_col_idx.old source_ptr.old source_indices.old).source_ptr }
+    ensures sources { source_indices.new ≡ (prepared_region nrows ncols row_ptr.now col_idx.now values.now entity_kinds.now entity_ids.now field_ids.now components.now offsets.now len words.now hops row_word_ptr.old row_word_indices.old row_masks.old column_word_ptr.old column_word_indices.old column_masks.old starts.old order.old region.old frontier.old scratch.old global_nodes.old local_row_ptr.old local_col_idx.old source_ptr.old source_indices.old).source_indices }
 {
     prepared_field_region::prepare_region(
         views::matrix(nrows, ncols, row_ptr, col_idx, values),

@@ -2,12 +2,12 @@
 // Made by tools/exports from crates/hybit_matrix/src: do not edit.
 ghost use Rattle.std.specs.Prelude.{◌≡◌, ◌+◌, length};
 ghost use Rattle.csr32.specs.Matrix.{stored};
-ghost use Rattle.side.specs.Side.{flip, side_holds};
+ghost use Rattle.side.specs.Side.{flip};
 ghost use Rattle.side.specs.Built.{built_ptr, built_words, built_masks};
 ghost use Rattle.dual_topology.specs.Check.{topology_check};
-ghost use Rattle.dual_topology.specs.Answers.{build_check, build_answer, scratch, stats_of, stats_answer, rows_of, width_of, row_set, row_check, row_words_answer, row_popcount_answer, row_contains_answer, row_rank_answer, row_select_answer, row_word_answer};
+ghost use Rattle.dual_topology.specs.Answers.{build_check, build_answer, scratch, row_words_answer, row_popcount_answer, row_contains_answer, row_rank_answer, row_select_answer, row_word_answer};
 ghost use Rattle.hybit_matrix.specs.Flat.{flat_of_checked, flat_of_truth, flat_of_counted};
-ghost use Rattle.hybit_matrix.specs.FlatTopology.{flat_of_dual_stated, flat_of_topology_built, flat_of_column, flat_of_word, side_of_name};
+ghost use Rattle.hybit_matrix.specs.FlatTopology.{flat_of_dual_stated, flat_of_topology_built, flat_of_column, flat_of_word, stated, on_row};
 
 use hybit_matrix::both_sides::{BuildAnswer, DualStatsAnswer};
 use hybit_matrix::{Answer, PairAnswer};
@@ -107,7 +107,7 @@ pub extern "C" fn hybit_dual_topology_stats(
     column_masks: &[u64],
     column_structural_nnz: usize,
 ) -> DualStatsAnswer
-    ensures { result ≡ flat_of_dual_stated (stats_answer (topology_check nrows ncols row_word_ptr.now row_word_indices.now row_masks.now structural_nnz column_nrows column_ncols column_word_ptr.now column_word_indices.now column_masks.now column_structural_nnz) (stats_of nrows ncols row_word_ptr.now row_word_indices.now row_masks.now structural_nnz column_word_ptr.now column_word_indices.now column_masks.now)) }
+    ensures { result ≡ flat_of_dual_stated (stated nrows ncols row_word_ptr.now row_word_indices.now row_masks.now structural_nnz column_nrows column_ncols column_word_ptr.now column_word_indices.now column_masks.now column_structural_nnz) }
 {
     hybit_matrix::both_sides::hybit_dual_topology_stats(
         nrows,
@@ -143,7 +143,7 @@ pub extern "C" fn hybit_row_words(
     columns: bool,
     number: u64,
 ) -> Answer
-    ensures { result ≡ flat_of_counted (row_words_answer (row_check (topology_check nrows ncols row_word_ptr.now row_word_indices.now row_masks.now structural_nnz column_nrows column_ncols column_word_ptr.now column_word_indices.now column_masks.now column_structural_nnz) number (rows_of (side_of_name columns) nrows ncols)) (width_of (side_of_name columns) nrows ncols) (row_set (side_of_name columns) (side_holds row_word_ptr.now row_word_indices.now row_masks.now) number)) }
+    ensures { result ≡ flat_of_counted (on_row nrows ncols row_word_ptr.now row_word_indices.now row_masks.now structural_nnz column_nrows column_ncols column_word_ptr.now column_word_indices.now column_masks.now column_structural_nnz row_words_answer columns number) }
 {
     hybit_matrix::both_sides::hybit_row_words(
         nrows,
@@ -181,7 +181,7 @@ pub extern "C" fn hybit_row_popcount(
     columns: bool,
     number: u64,
 ) -> Answer
-    ensures { result ≡ flat_of_counted (row_popcount_answer (row_check (topology_check nrows ncols row_word_ptr.now row_word_indices.now row_masks.now structural_nnz column_nrows column_ncols column_word_ptr.now column_word_indices.now column_masks.now column_structural_nnz) number (rows_of (side_of_name columns) nrows ncols)) (width_of (side_of_name columns) nrows ncols) (row_set (side_of_name columns) (side_holds row_word_ptr.now row_word_indices.now row_masks.now) number)) }
+    ensures { result ≡ flat_of_counted (on_row nrows ncols row_word_ptr.now row_word_indices.now row_masks.now structural_nnz column_nrows column_ncols column_word_ptr.now column_word_indices.now column_masks.now column_structural_nnz row_popcount_answer columns number) }
 {
     hybit_matrix::both_sides::hybit_row_popcount(
         nrows,
@@ -220,7 +220,7 @@ pub extern "C" fn hybit_row_contains(
     number: u64,
     col: u64,
 ) -> Answer
-    ensures { result ≡ flat_of_truth (row_contains_answer (row_check (topology_check nrows ncols row_word_ptr.now row_word_indices.now row_masks.now structural_nnz column_nrows column_ncols column_word_ptr.now column_word_indices.now column_masks.now column_structural_nnz) number (rows_of (side_of_name columns) nrows ncols)) (width_of (side_of_name columns) nrows ncols) (row_set (side_of_name columns) (side_holds row_word_ptr.now row_word_indices.now row_masks.now) number) col) }
+    ensures { result ≡ flat_of_truth (on_row nrows ncols row_word_ptr.now row_word_indices.now row_masks.now structural_nnz column_nrows column_ncols column_word_ptr.now column_word_indices.now column_masks.now column_structural_nnz row_contains_answer columns number col) }
 {
     hybit_matrix::both_sides::hybit_row_contains(
         nrows,
@@ -260,7 +260,7 @@ pub extern "C" fn hybit_row_rank(
     number: u64,
     col: u64,
 ) -> Answer
-    ensures { result ≡ flat_of_counted (row_rank_answer (row_check (topology_check nrows ncols row_word_ptr.now row_word_indices.now row_masks.now structural_nnz column_nrows column_ncols column_word_ptr.now column_word_indices.now column_masks.now column_structural_nnz) number (rows_of (side_of_name columns) nrows ncols)) (width_of (side_of_name columns) nrows ncols) (row_set (side_of_name columns) (side_holds row_word_ptr.now row_word_indices.now row_masks.now) number) col) }
+    ensures { result ≡ flat_of_counted (on_row nrows ncols row_word_ptr.now row_word_indices.now row_masks.now structural_nnz column_nrows column_ncols column_word_ptr.now column_word_indices.now column_masks.now column_structural_nnz row_rank_answer columns number col) }
 {
     hybit_matrix::both_sides::hybit_row_rank(
         nrows,
@@ -300,7 +300,7 @@ pub extern "C" fn hybit_row_select(
     number: u64,
     ordinal: u64,
 ) -> Answer
-    ensures { result ≡ flat_of_column (row_select_answer (row_check (topology_check nrows ncols row_word_ptr.now row_word_indices.now row_masks.now structural_nnz column_nrows column_ncols column_word_ptr.now column_word_indices.now column_masks.now column_structural_nnz) number (rows_of (side_of_name columns) nrows ncols)) (width_of (side_of_name columns) nrows ncols) (row_set (side_of_name columns) (side_holds row_word_ptr.now row_word_indices.now row_masks.now) number) ordinal) }
+    ensures { result ≡ flat_of_column (on_row nrows ncols row_word_ptr.now row_word_indices.now row_masks.now structural_nnz column_nrows column_ncols column_word_ptr.now column_word_indices.now column_masks.now column_structural_nnz row_select_answer columns number ordinal) }
 {
     hybit_matrix::both_sides::hybit_row_select(
         nrows,
@@ -340,7 +340,7 @@ pub extern "C" fn hybit_row_word(
     number: u64,
     k: u64,
 ) -> PairAnswer
-    ensures { result ≡ flat_of_word (row_word_answer (row_check (topology_check nrows ncols row_word_ptr.now row_word_indices.now row_masks.now structural_nnz column_nrows column_ncols column_word_ptr.now column_word_indices.now column_masks.now column_structural_nnz) number (rows_of (side_of_name columns) nrows ncols)) (width_of (side_of_name columns) nrows ncols) (row_set (side_of_name columns) (side_holds row_word_ptr.now row_word_indices.now row_masks.now) number) k) }
+    ensures { result ≡ flat_of_word (on_row nrows ncols row_word_ptr.now row_word_indices.now row_masks.now structural_nnz column_nrows column_ncols column_word_ptr.now column_word_indices.now column_masks.now column_structural_nnz row_word_answer columns number k) }
 {
     hybit_matrix::both_sides::hybit_row_word(
         nrows,

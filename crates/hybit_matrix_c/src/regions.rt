@@ -1,19 +1,11 @@
 // The calls of hybit_matrix::regions, exported.
 // Made by tools/exports from crates/hybit_matrix/src: do not edit.
 ghost use Rattle.std.specs.Prelude.{◌≡◌};
-ghost use Rattle.side.specs.Side.{side_holds};
-ghost use Rattle.dof_layout.specs.Layout.{total_of};
-ghost use Rattle.dof_layout.specs.Answers.{square_check};
-ghost use Rattle.dual_topology.specs.Check.{topology_check};
-ghost use Rattle.graph.specs.Network.{plain_network, field_network};
-ghost use Rattle.growth.specs.Lent.{region_left, frontier_left, scratch_left};
-ghost use Rattle.region.specs.Growth.{grow_check, grow_answer};
-ghost use Rattle.field_region.specs.Growth.{field_grow_check, field_grow_answer};
 ghost use Rattle.field_region.specs.Closure.{close_check, close_answer, close_words};
 ghost use Rattle.field_region.specs.Owners.{owners_check, owners_answer, owners_list};
 ghost use Rattle.multiplicity.specs.Multiplicity.{multiplicity_check, multiplicity_answer, multiplicity_counts, weight_answer};
 ghost use Rattle.hybit_matrix.specs.Flat.{flat_of_counted};
-ghost use Rattle.hybit_matrix.specs.FlatRegions.{flat_of_grown, flat_of_field_grown, flat_of_regions};
+ghost use Rattle.hybit_matrix.specs.FlatRegions.{flat_of_regions, grown_of, field_grown_of};
 
 use hybit_matrix::Answer;
 use hybit_matrix::regions::{FieldGrowthAnswer, GrowthAnswer, MultiplicityAnswer};
@@ -41,10 +33,10 @@ pub extern "C" fn hybit_grow_undirected_region(
     frontier: &mut [u64],
     scratch: &mut [u64],
 ) -> GrowthAnswer
-    ensures value { result ≡ flat_of_grown (grow_answer (grow_check (topology_check nrows ncols row_word_ptr.now row_word_indices.now row_masks.now structural_nnz column_nrows column_ncols column_word_ptr.now column_word_indices.now column_masks.now column_structural_nnz) nrows ncols len words.now region.old frontier.old scratch.old) (plain_network nrows (side_holds row_word_ptr.now row_word_indices.now row_masks.now)) words.now hops) }
-    ensures inside { region.new ≡ region_left (grow_check (topology_check nrows ncols row_word_ptr.now row_word_indices.now row_masks.now structural_nnz column_nrows column_ncols column_word_ptr.now column_word_indices.now column_masks.now column_structural_nnz) nrows ncols len words.now region.old frontier.old scratch.old) (plain_network nrows (side_holds row_word_ptr.now row_word_indices.now row_masks.now)) words.now hops region.old }
-    ensures edge { frontier.new ≡ frontier_left (grow_check (topology_check nrows ncols row_word_ptr.now row_word_indices.now row_masks.now structural_nnz column_nrows column_ncols column_word_ptr.now column_word_indices.now column_masks.now column_structural_nnz) nrows ncols len words.now region.old frontier.old scratch.old) (plain_network nrows (side_holds row_word_ptr.now row_word_indices.now row_masks.now)) words.now hops frontier.old }
-    ensures spent { scratch.new ≡ scratch_left (grow_check (topology_check nrows ncols row_word_ptr.now row_word_indices.now row_masks.now structural_nnz column_nrows column_ncols column_word_ptr.now column_word_indices.now column_masks.now column_structural_nnz) nrows ncols len words.now region.old frontier.old scratch.old) nrows scratch.old }
+    ensures value { result ≡ (grown_of nrows ncols row_word_ptr.now row_word_indices.now row_masks.now structural_nnz column_nrows column_ncols column_word_ptr.now column_word_indices.now column_masks.now column_structural_nnz len words.now hops region.old frontier.old scratch.old).answer }
+    ensures inside { region.new ≡ (grown_of nrows ncols row_word_ptr.now row_word_indices.now row_masks.now structural_nnz column_nrows column_ncols column_word_ptr.now column_word_indices.now column_masks.now column_structural_nnz len words.now hops region.old frontier.old scratch.old).region }
+    ensures edge { frontier.new ≡ (grown_of nrows ncols row_word_ptr.now row_word_indices.now row_masks.now structural_nnz column_nrows column_ncols column_word_ptr.now column_word_indices.now column_masks.now column_structural_nnz len words.now hops region.old frontier.old scratch.old).frontier }
+    ensures spent { scratch.new ≡ (grown_of nrows ncols row_word_ptr.now row_word_indices.now row_masks.now structural_nnz column_nrows column_ncols column_word_ptr.now column_word_indices.now column_masks.now column_structural_nnz len words.now hops region.old frontier.old scratch.old).scratch }
 {
     hybit_matrix::regions::hybit_grow_undirected_region(
         nrows,
@@ -95,10 +87,10 @@ pub extern "C" fn hybit_grow_field_aware_region(
     frontier: &mut [u64],
     scratch: &mut [u64],
 ) -> FieldGrowthAnswer
-    ensures value { result ≡ flat_of_field_grown (field_grow_answer (field_grow_check (topology_check nrows ncols row_word_ptr.now row_word_indices.now row_masks.now structural_nnz column_nrows column_ncols column_word_ptr.now column_word_indices.now column_masks.now column_structural_nnz) (square_check entity_kinds.now entity_ids.now field_ids.now components.now offsets.now nrows ncols) (total_of components.now) len words.now region.old frontier.old scratch.old) (field_network components.now (side_holds row_word_ptr.now row_word_indices.now row_masks.now)) words.now hops) }
-    ensures inside { region.new ≡ region_left (field_grow_check (topology_check nrows ncols row_word_ptr.now row_word_indices.now row_masks.now structural_nnz column_nrows column_ncols column_word_ptr.now column_word_indices.now column_masks.now column_structural_nnz) (square_check entity_kinds.now entity_ids.now field_ids.now components.now offsets.now nrows ncols) (total_of components.now) len words.now region.old frontier.old scratch.old) (field_network components.now (side_holds row_word_ptr.now row_word_indices.now row_masks.now)) words.now hops region.old }
-    ensures edge { frontier.new ≡ frontier_left (field_grow_check (topology_check nrows ncols row_word_ptr.now row_word_indices.now row_masks.now structural_nnz column_nrows column_ncols column_word_ptr.now column_word_indices.now column_masks.now column_structural_nnz) (square_check entity_kinds.now entity_ids.now field_ids.now components.now offsets.now nrows ncols) (total_of components.now) len words.now region.old frontier.old scratch.old) (field_network components.now (side_holds row_word_ptr.now row_word_indices.now row_masks.now)) words.now hops frontier.old }
-    ensures spent { scratch.new ≡ scratch_left (field_grow_check (topology_check nrows ncols row_word_ptr.now row_word_indices.now row_masks.now structural_nnz column_nrows column_ncols column_word_ptr.now column_word_indices.now column_masks.now column_structural_nnz) (square_check entity_kinds.now entity_ids.now field_ids.now components.now offsets.now nrows ncols) (total_of components.now) len words.now region.old frontier.old scratch.old) (total_of components.now) scratch.old }
+    ensures value { result ≡ (field_grown_of nrows ncols row_word_ptr.now row_word_indices.now row_masks.now structural_nnz column_nrows column_ncols column_word_ptr.now column_word_indices.now column_masks.now column_structural_nnz entity_kinds.now entity_ids.now field_ids.now components.now offsets.now len words.now hops region.old frontier.old scratch.old).answer }
+    ensures inside { region.new ≡ (field_grown_of nrows ncols row_word_ptr.now row_word_indices.now row_masks.now structural_nnz column_nrows column_ncols column_word_ptr.now column_word_indices.now column_masks.now column_structural_nnz entity_kinds.now entity_ids.now field_ids.now components.now offsets.now len words.now hops region.old frontier.old scratch.old).region }
+    ensures edge { frontier.new ≡ (field_grown_of nrows ncols row_word_ptr.now row_word_indices.now row_masks.now structural_nnz column_nrows column_ncols column_word_ptr.now column_word_indices.now column_masks.now column_structural_nnz entity_kinds.now entity_ids.now field_ids.now components.now offsets.now len words.now hops region.old frontier.old scratch.old).frontier }
+    ensures spent { scratch.new ≡ (field_grown_of nrows ncols row_word_ptr.now row_word_indices.now row_masks.now structural_nnz column_nrows column_ncols column_word_ptr.now column_word_indices.now column_masks.now column_structural_nnz entity_kinds.now entity_ids.now field_ids.now components.now offsets.now len words.now hops region.old frontier.old scratch.old).scratch }
 {
     hybit_matrix::regions::hybit_grow_field_aware_region(
         nrows,

@@ -1,7 +1,7 @@
 -- The five lines of an answer: how long they are, that they are written one behind the other, and that what was counted has room. Assumes nothing.
 use mathlib.Core.Path.{◌≡◌, ap₂, ◌∙◌}
 use mathlib.Core.List.{List, [], ◌++◌, append_assoc}
-use Prim.Native.Nat.{ℕ, ◌+◌}
+use Prim.Native.Nat.{ℕ, ◌+◌, ◌^◌, ◌≤◌, ◌<◌}
 use native.Mathlib.Omega.{arith}
 use lib.ListN.{length, length-append}
 use Rattle.base.specs.Lists.{over, placed}
@@ -68,6 +68,12 @@ module _ (region frontier : List ℕ) (completed : ℕ) (ptr cols : List ℕ) wh
       ∙ append_assoc line1 line2 (line3 ++ (line4 ++ line5))
 
 -- what decides how long the lines are, and that each has room
-pub ruleset lengths = (numbers-most, decimal-most, lines-length)
+pub numbers-line : (key xs : List ℕ) → length key ≤ 20 → length xs ≤ 1024 → length (line key (numbers xs)) < 2 ^ 32
+numbers-line key xs short few = omega (arith, length-line key (numbers xs), numbers-most xs)
+
+pub decimal-line : (key : List ℕ) (n : ℕ) → length key ≤ 20 → length (line key (decimal n)) < 2 ^ 32
+decimal-line key n short = omega (arith, length-line key (decimal n), decimal-most n)
+
+pub ruleset lengths = (numbers-line, decimal-line, lines-sum)
 
 pub ruleset sums = (lines-sum)

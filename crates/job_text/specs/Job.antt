@@ -1,4 +1,4 @@
--- The job of document 01: what it asks, and its text. Lines of key=value in the order size, blocks, ptr, cols, seeds, hops; size, seeds and hops
+-- A job: what it asks, and its text. Lines of key=value in the order size, blocks, ptr, cols, seeds, hops; size, seeds and hops
 -- have 64 bits, the others 32; at most 16,384 bytes.
 use Rattle.std.specs.Prelude.{Bool, ◌&&◌, List, [], ◌∷◌, ◌++◌, ℕ, eqb, leb, length}
 use Rattle.std.specs.Prelude.{Option, Some, None}

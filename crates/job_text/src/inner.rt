@@ -5,9 +5,9 @@ ghost use Rattle.job_text.specs.Job.{job_of, job_found, figures_read};
 ghost use Rattle.text_writing.specs.Text.{decimal, line};
 ghost use Rattle.job_text.specs.Answer.{refused_text, refused_key, text_answer, text_left};
 
-use crate::JobRead;
+use crate::{JobRead, TEXT_LIMIT};
 use base::Refusal;
-use text_writing::inner::{Output, decimal_length, list_length, put_line};
+use text_writing::inner::{Output, line_length, put_line};
 
 // The figures, if each of them was read.
 fn figures(
@@ -45,14 +45,14 @@ pub fn read_job(
     ensures columns { cols.new ≡ over (take (length cols.old) (job_of text.now).cols) cols.old }
     ensures selected { seeds.new ≡ over (take (length seeds.old) (job_of text.now).seeds) seeds.old }
 {
-    let (size, rest) = text_reading::inner::number_line(text, b"size=", u64::MAX);
+    let (size, rest) = text_reading::inner::number_line::<u64>(text, b"size=");
     let (blocks, rest) = text_reading::inner::list_line(rest, b"blocks=", blocks);
     let (pointers, rest) = text_reading::inner::list_line(rest, b"ptr=", ptr);
     let (columns, rest) = text_reading::inner::list_line(rest, b"cols=", cols);
     let (seeds, rest) = text_reading::inner::list_line(rest, b"seeds=", seeds);
-    let (hops, rest) = text_reading::inner::number_line(rest, b"hops=", u64::MAX);
+    let (hops, rest) = text_reading::inner::number_line::<u64>(rest, b"hops=");
     let read = figures(size, blocks, pointers, columns, seeds, hops);
-    if text.len() <= 16384 && rest.len() == 0 {
+    if text.len() <= TEXT_LIMIT && rest.is_empty() {
         read
     } else {
         None
@@ -67,11 +67,12 @@ pub fn refuse(r: Refusal, out: &mut [u8]) -> Result<u64, Refusal>
     write_refused(r.into(), out)
 }
 
+#[tactic(auto, using(crate::proofs::Lines::lengths))]
 fn write_refused(number: u32, out: &mut [u8]) -> Result<u64, Refusal>
     ensures value { result ≡ text_answer (line refused_key (decimal number)) out.old }
     ensures out_after { out.new ≡ text_left (line refused_key (decimal number)) out.old }
 {
-    let length = 9 + decimal_length(number as u64);
+    let length = line_length(b"refused=", number as u64);
     if length > out.len() {
         return Err(Refusal::ListTooShort);
     }
@@ -100,12 +101,11 @@ impl JobResult<'_> {
     fn text_length(self) -> usize
         ensures { result ≡ length (lines_of self.entry) }
     {
-        let members = list_length(self.region);
-        let edge = list_length(self.frontier);
-        let hops = decimal_length(self.completed);
-        let pointers = list_length(self.ptr);
-        let columns = list_length(self.cols);
-        52 + members + edge + hops + pointers + columns
+        line_length(b"region=", self.region)
+            + line_length(b"frontier=", self.frontier)
+            + line_length(b"completed=", self.completed)
+            + line_length(b"local_ptr=", self.ptr)
+            + line_length(b"local_cols=", self.cols)
     }
 
     // The five lines, at the front of a list with room for them.

@@ -10,19 +10,20 @@ use lib.Bits.{bit_and, bit_or, and_le_l}
 use lib.Count.{ones}
 use lib.Dec.{T, ltb, eqb}
 use lib.ListN.{length, get_or, set, drop, length-drop}
-use Rattle.std.specs.List.{list_any}
+use Rattle.std.specs.List.{list_any, sum_by}
 use Rattle.base.specs.Sets.{any_below, count_below, members_from, members_below}
 use Rattle.base.specs.Lists.{written, over}
 use Rattle.base.proofs.Bools.{and_l, T_true, not-T-of}
+use Rattle.base.proofs.Passes.{sum-list}
 use Rattle.base.proofs.Lists.{at_head, put_next, put_whole, put-ahead, put-end}
-use Rattle.base.proofs.Sets.{count-members, count-le, sum-zero, None, any-i, any_none, count_past, members-zero, members-append, members-past, any-cong, any_append, any-past}
+use Rattle.base.proofs.Sets.{sum-cong, count-cong, any-i, any_none, count_past, members-zero, members-append, members-past, any-cong, any_append, any-past}
 use Rattle.word.specs.Bits.{bit_at, set_bits, word_from}
 use Rattle.word.specs.Answers.{on}
 use Rattle.word.specs.declared.Operation.{Operation}
-use Rattle.word.proofs.Bits.{zero_bit, bit-and}
-use Rattle.word.proofs.Turns.{some_turn, count_turn, turn-members}
+use Rattle.word.proofs.Bits.{zero_bit, bit-and, ones-count}
+use Rattle.word.proofs.Turns.{some_turn, turn-members}
 use Rattle.word.proofs.Answers.{off}
-use Rattle.word.proofs.Words.{word-ext, on-words, word-empty, or-empty}
+use Rattle.word.proofs.Words.{word-ext, on-words, word-empty, or-empty, count-words}
 use Rattle.mask.specs.Mask.{in_mask, IsMask}
 use Rattle.mask.specs.Answers.{combined}
 use Rattle.mask.proofs.Masks.{sizes, mask-length, in-word, word_at, is-length, is_word, is_below, is-fits}
@@ -87,15 +88,13 @@ module _ (len : ℕ) (words : List ℕ) (m : IsMask len words) where
         (let e : i ≡ 64 * (i / 64) + i % 64 = omega arith in
         ap both e ∙ common-bits words other (i / 64) (i % 64) (omega arith) ∙ ap (λ (x : ℕ). bit_at x (i % 64)) (h (i / 64) (omega (arith, is-length len words m))) ∙ zero_bit (i % 64))))
 
-  -- the count with one word more
-  pub count-word : (w n : ℕ) → w < length words → n ≡ count_below (64 * w) (in_mask words) → n + ones (get_or words w 0) ≡ count_below (64 * (w + 1)) (in_mask words)
-  count-word w n h e =
-      ap (λ (k : ℕ). k + ones (get_or words w 0)) e ∙ count_turn (in_mask words) w (get_or words w 0) (λ j l. in-word words w j l) (is-fits len words m w h)
-
-  pub count-all : (w : ℕ) → w ≡ length words → count_below (64 * w) (in_mask words) ≡ count_below len (in_mask words)
-  count-all w e =
-      count_past len (64 * w) (in_mask words) (omega (arith, is-length len words m))
-      (λ i l u t. omega (arith, is_below len words m i (omega arith) t))
+  pub count-list : sum_by ones words ≡ count_below len (in_mask words)
+  count-list =
+      sum-list ones words
+      ∙ sum-cong (length words) (λ w. ones (get_or words w 0)) (λ w. count_below 64 (λ j. in_mask words (64 * w + j)))
+      (λ w h. ones-count 64 (get_or words w 0) (is-fits len words m w h) ∙ count-cong 64 (bit_at (get_or words w 0)) (λ j. in_mask words (64 * w + j)) (λ j l. sym (in-word words w j l)))
+      ∙ count-words (length words) (in_mask words)
+      ∙ count_past len (64 * length words) (in_mask words) (omega (arith, is-length len words m)) (λ i l u t. omega (arith, is_below len words m i u t))
 
   pub members-all : members_below (64 * length words) (in_mask words) ≡ members_below len (in_mask words)
   members-all =
@@ -190,7 +189,5 @@ module _ (l before out : List ℕ) (n w : ℕ) where
       let none : drop n l ≡ [] = s.left ∙ ap (members_from (in_mask words) (64 * w)) over ∙ members-zero (in_mask words) (64 * w) in
       put-end l before out n (omega (arith, s.room, ap length none, length-drop n l)) s.done
 
--- what the passes look for
-pub ruleset counting = (count-word, count-all, count-le, sum-zero, sizes)
-
+-- what the operation looks for
 pub ruleset combining = (combine-turn, combine-end, sizes)

@@ -17,17 +17,16 @@ use Rattle.base.proofs.Bools.{eqb_swap, eq-or-ne, lt-or-le, not-below, and_l, an
 use Rattle.base.proofs.Lists.{every-at, in-snoc}
 use Rattle.base.proofs.Sets.{None}
 use Rattle.word.specs.Bits.{bit_at, word_of}
-use Rattle.word.proofs.Bits.{one_shl, bit_test, bit-and}
+use Rattle.word.proofs.Bits.{one_shl, bit-and}
 use Rattle.word.proofs.Words.{word-ext, word_none, word-of-bits, word-op, or-bitwise, and-bitwise, and-not-bitwise, word-one, word_below, bit_word}
 use Rattle.mask.specs.Mask.{in_mask, words_needed, mask_words, IsMask}
 use Rattle.mask.specs.Answers.{with_node, with_word, with_range}
 use Rattle.mask.proofs.Masks.{sizes, is-of, mask-none, mask-cong, mask-holds, word_at, is-length, is_word, mask-store, in-word}
 
 -- reading a node
-pub bit-read : (words : List ℕ) (i : ℕ) → not (eqb (bit_and (get_or words (i / 64) 0) ((1 * 2 ^ (i % 64)) % 2 ^ 64)) 0) ≡ in_mask words i
+pub bit-read : (words : List ℕ) (i : ℕ) → bit_at (get_or words (i / 64) 0) (i % 64) ≡ in_mask words i
 unfolding in_mask
-bit-read words i =
-    ap (λ (x : ℕ). not (eqb (bit_and (get_or words (i / 64) 0) x) 0)) (one_shl (i % 64) (omega arith)) ∙ bit_test (get_or words (i / 64) 0) (i % 64)
+bit-read words i = refl
 
 -- node i's own bit, as a word
 node-word : (i : ℕ) → (1 * 2 ^ (i % 64)) % 2 ^ 64 ≡ word_of (λ j. eqb j i) (i / 64)
@@ -158,10 +157,11 @@ below-some bound w l h =
     ∙ sym (word_below (64 * w) (bound - w * 64) 64 (omega arith)) ∙ ap (λ (n : ℕ). word_of (λ i. ltb i n) w) e
 
 -- `below end & !below start`: word w of a range
-range-word : (start end w hi lo : ℕ) → hi ≡ word_of (λ i. ltb i end) w → lo ≡ word_of (λ i. ltb i start) w → bit_and hi (2 ^ 64 - 1 - lo) ≡ word_of (λ i. ltb i end && not (ltb i start)) w
+pub range-word : (start end w hi lo : ℕ) → hi ≡ word_of (λ i. ltb i end) w → lo ≡ word_of (λ i. ltb i start) w → bit_and hi (2 ^ 64 - 1 - lo) ≡ word_of (between start end) w
 range-word start end w hi lo eh el =
     ap₂ (λ (a b : ℕ). bit_and a (2 ^ 64 - 1 - b)) eh el
     ∙ word-op 64 (λ a b. bit_and a (2 ^ 64 - 1 - b)) (λ s t. s && not t) (and-not-bitwise 64) (λ i. ltb i end) (λ i. ltb i start) (64 * w)
+    ∙ word-ext (λ i. ltb i end && not (ltb i start)) (between start end) 64 (64 * w) (λ i l u. ap (λ (t : Bool). ltb i end && t) (not-below i start) ∙ and_comm (ltb i end) (leb start i))
 
 -- ---- a mask's members in a range
 
@@ -169,13 +169,11 @@ abbrev pub in_range : List ℕ → ℕ → ℕ → ℕ → Bool
 in_range words start end i = in_mask words i && between start end i
 
 -- the range's bits of word w
-pub range-bits : (words : List ℕ) (start end w hi lo : ℕ) → hi ≡ word_of (λ i. ltb i end) w → lo ≡ word_of (λ i. ltb i start) w
-    → (j : ℕ) → j < 64 → in_range words start end (64 * w + j) ≡ bit_at (bit_and (get_or words w 0) (bit_and hi (2 ^ 64 - 1 - lo))) j
-range-bits words start end w hi lo eh el j h =
-    ap₂ (λ (s t : Bool). s && t) (in-word words w j h)
-    (and_comm (leb start (64 * w + j)) (ltb (64 * w + j) end) ∙ ap (λ (t : Bool). ltb (64 * w + j) end && t) (sym (not-below (64 * w + j) start))
-    ∙ sym (bit_word (λ i. ltb i end && not (ltb i start)) 64 (64 * w) j h) ∙ ap (λ (x : ℕ). bit_at x j) (sym (range-word start end w hi lo eh el)))
-    ∙ sym (bit-and (get_or words w 0) (bit_and hi (2 ^ 64 - 1 - lo)) j)
+pub range-bits : (words : List ℕ) (start end w block : ℕ) → block ≡ word_of (between start end) w
+    → (j : ℕ) → j < 64 → in_range words start end (64 * w + j) ≡ bit_at (bit_and (get_or words w 0) block) j
+range-bits words start end w block e j h =
+    ap₂ (λ (s t : Bool). s && t) (in-word words w j h) (sym (bit_word (between start end) 64 (64 * w) j h) ∙ ap (λ (x : ℕ). bit_at x j) (sym e))
+    ∙ sym (bit-and (get_or words w 0) block j)
 
 -- none lies before the first word
 pub range-ahead : (words : List ℕ) (start end w : ℕ) → 64 * w ≤ start → None (in_range words start end) (64 * w)
@@ -200,14 +198,13 @@ module _ (len : ℕ) (words : List ℕ) (start end : ℕ) where
           let a : start ≤ i = leb→le start i (and_l (leb start i) (ltb i end) (and_l (between start end i) (ltb i (64 * (start / 64))) t)) in
           absurd (omega (arith, ltb→lt i (64 * (start / 64)) (and_r (between start end i) (ltb i (64 * (start / 64))) t)))
 
-  pub range-turn : (w hi lo : ℕ) → w < words_needed len → end ≤ len → hi ≡ word_of (λ i. ltb i end) w → lo ≡ word_of (λ i. ltb i start) w
-      → set (mask_words len (ranged w)) w (bit_or (get_or (mask_words len (ranged w)) w 0) (bit_and hi (2 ^ 64 - 1 - lo))) ≡ mask_words len (ranged (w + 1))
-  range-turn w hi lo h le eh el =
-      mask-store len (ranged w) (ranged (w + 1)) w (bit_or (get_or (mask_words len (ranged w)) w 0) (bit_and hi (2 ^ 64 - 1 - lo))) h
-      (ap₂ bit_or (word_at len (ranged w) w h)
-      (range-word start end w hi lo eh el)
-      ∙ word-op 64 bit_or (λ s t. s || t) (or-bitwise 64) (λ i. ltb i len && ranged w i) (λ i. ltb i end && not (ltb i start)) (64 * w)
-      ∙ word-ext (λ i. (ltb i len && ranged w i) || (ltb i end && not (ltb i start))) (λ i. ltb i len && ranged (w + 1) i) 64 (64 * w) (λ i l u. here i l u))
+  pub range-turn : (w block : ℕ) → w < words_needed len → end ≤ len → block ≡ word_of (between start end) w
+      → set (mask_words len (ranged w)) w (bit_or (get_or (mask_words len (ranged w)) w 0) block) ≡ mask_words len (ranged (w + 1))
+  range-turn w block h le e =
+      mask-store len (ranged w) (ranged (w + 1)) w (bit_or (get_or (mask_words len (ranged w)) w 0) block) h
+      (ap₂ bit_or (word_at len (ranged w) w h) e
+      ∙ word-op 64 bit_or (λ s t. s || t) (or-bitwise 64) (λ i. ltb i len && ranged w i) (between start end) (64 * w)
+      ∙ word-ext (λ i. (ltb i len && ranged w i) || between start end i) (λ i. ltb i len && ranged (w + 1) i) 64 (64 * w) (λ i l u. here i l u))
       (λ i l n. ap (λ (t : Bool). in_mask words i || (between start end i && t)) (away i n))
     where
       away : (i : ℕ) → i / 64 ≢ w → ltb i (64 * w) ≡ ltb i (64 * (w + 1))
@@ -224,18 +221,18 @@ module _ (len : ℕ) (words : List ℕ) (start end : ℕ) where
                   one (inl b) = let e : i / 64 ≡ w = omega arith in absurd (n e)
                   one (inr b) = b
 
-      same : (a m s e : Bool) → (T e → T a) → ((a && (m || ((s && e) && false))) || (e && s)) ≡ (a && (m || ((s && e) && true)))
+      same : (a m s e : Bool) → (T e → T a) → ((a && (m || ((s && e) && false))) || (s && e)) ≡ (a && (m || ((s && e) && true)))
       same true true s e f = refl
       same true false true true f = refl
       same true false true false f = refl
-      same true false false true f = refl
-      same true false false false f = refl
-      same false m s true f = absurd (f tt)
-      same false m s false f = refl
+      same true false false e f = refl
+      same false m true true f = absurd (f tt)
+      same false m true false f = refl
+      same false m false e f = refl
 
-      here : (i : ℕ) → 64 * w ≤ i → i < 64 * w + 64 → ((ltb i len && ranged w i) || (ltb i end && not (ltb i start))) ≡ (ltb i len && ranged (w + 1) i)
+      here : (i : ℕ) → 64 * w ≤ i → i < 64 * w + 64 → ((ltb i len && ranged w i) || between start end i) ≡ (ltb i len && ranged (w + 1) i)
       here i l u =
-          ap₂ (λ (x y : Bool). (ltb i len && (in_mask words i || (between start end i && x))) || (ltb i end && y)) (le-ltb i (64 * w) l) (not-below i start)
+          ap (λ (x : Bool). (ltb i len && (in_mask words i || (between start end i && x))) || between start end i) (le-ltb i (64 * w) l)
           ∙ same (ltb i len) (in_mask words i) (leb start i) (ltb i end) (λ t. lt→ltb i len (omega (arith, ltb→lt i end t)))
           ∙ ap (λ (x : Bool). ltb i len && (in_mask words i || (between start end i && x))) (sym (lt-ltb i (64 * (w + 1)) (omega arith)))
 
@@ -250,7 +247,7 @@ module _ (len : ℕ) (words : List ℕ) (start end : ℕ) where
       whole false t f = refl
 
 -- what the functions of one word look for
-pub ruleset stores = (bit-read, put_in, put-out, or-in, or-past, below-some, mask-none, sizes)
+pub ruleset stores = (bit-read, put_in, put-out, or-in, or-past, below-some, range-word, mask-none, sizes)
 
 pub ruleset filling = (fill-turn, is-of, every-at, ltb-true, sizes)
 

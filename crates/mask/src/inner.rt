@@ -7,10 +7,10 @@ ghost use Rattle.std.specs.Prelude.{◌≡◌, IfOk, IfErr, Err, true, false, �
 ghost use Rattle.std.specs.Iterator.{at_most};
 ghost use Rattle.base.specs.Checks.{side_limit};
 ghost use Rattle.base.specs.Lists.{every, below, is_in, over};
-ghost use Rattle.base.specs.Sets.{any_below, first_below, count_below, members_below};
+ghost use Rattle.base.specs.Sets.{between, any_below, count_below, members_below};
 ghost use Rattle.word.specs.Bits.{word_of};
 ghost use Rattle.word.specs.Answers.{on};
-ghost use Rattle.mask.specs.Mask.{mask_check, in_mask, words_needed, mask_words, shape_check, length_check, IsMask};
+ghost use Rattle.mask.specs.Mask.{words_needed, mask_words, shape_check, length_check, IsMask};
 ghost use Rattle.mask.specs.Answers.{with_node, with_word, with_range, combined};
 
 use crate::DofMask;
@@ -27,7 +27,7 @@ pub struct Mask<'a> {
 }
 
 impl<'a> DofMask<'a> {
-    ghost use Rattle.mask.specs.Views.{check_mask, AcceptedFrom};
+    ghost use Rattle.mask.specs.Views.{check_mask, check_length, AcceptedFrom};
 
     // What `check` accepts.
     pub fn accept(self) -> Result<Mask<'a>, Refusal>
@@ -44,8 +44,8 @@ impl<'a> DofMask<'a> {
     // A mask that must have a length.
     pub fn accept_of(self, expected: usize) -> Result<Mask<'a>, Refusal>
         requires { expected ≤ side_limit }
-        ensures refused { IfErr result (λ e. length_check expected self.entry.len self.entry.words.now ≡ Err e) }
-        ensures accepted { IfOk result (λ m. (length_check expected self.entry.len self.entry.words.now ≡ Ok tt) × (self.entry.len ≡ expected) × AcceptedFrom self.entry m) }
+        ensures refused { IfErr result (λ e. check_length expected self.entry ≡ Err e) }
+        ensures accepted { IfOk result (λ m. (check_length expected self.entry ≡ Ok tt) × (self.entry.len ≡ expected) × AcceptedFrom self.entry m) }
     {
         check_length(expected, self.len, self.words)?;
         Ok(Mask {
@@ -57,6 +57,7 @@ impl<'a> DofMask<'a> {
 
 impl<'a> Mask<'a> {
     ghost use Rattle.mask.specs.Views.{nodes};
+    ghost use Rattle.mask.specs.Walk.{next_member_of};
 
     pub fn copy(self, out: &mut [u64])
         requires { length out.old ≡ words_needed self.len }
@@ -69,7 +70,10 @@ impl<'a> Mask<'a> {
         requires { index < self.len }
         ensures { result ≡ nodes self.entry index }
     {
-        self.words[index / AbtmTopologyWord::BITS] & (1u64 << (index % AbtmTopologyWord::BITS)) != 0
+        word::inner::bit(
+            self.words[index / AbtmTopologyWord::BITS],
+            index % AbtmTopologyWord::BITS,
+        )
     }
 
     pub fn any_node(self) -> bool
@@ -78,7 +82,7 @@ impl<'a> Mask<'a> {
         self.words.iter().any(|word| *word != 0)
     }
 
-    // The words are numbered, and the other's indexed: as a `zip` of both lists the pass took 40 to 50 % more time.
+    // The words are numbered, and the other's indexed: as a `zip` of both lists the pass took 40 to 50 % more time, and a slower call is a defect.
     pub fn any_common(self, other: Mask) -> bool
         requires { other.len ≡ self.len }
         ensures { result ≡ any_below self.entry.len (λ i. nodes self.entry i && nodes other.entry i) }
@@ -91,15 +95,10 @@ impl<'a> Mask<'a> {
         false
     }
 
-    #[tactic(auto, using(crate::proofs::Passes::counting))]
     pub fn count(self) -> u64
         ensures { result ≡ count_below self.entry.len (nodes self.entry) }
     {
-        let mut total: u64 = 0;
-        for word in self.words {
-            total += word.count_ones() as u64;
-        }
-        total
+        self.words.iter().map(|word| word.count_ones() as u64).sum()
     }
 
     // The first member at or after `from`, or the length: closing in field_region goes on from the answer, whether it is a member or the end. Words
@@ -107,7 +106,7 @@ impl<'a> Mask<'a> {
     #[tactic(auto, using(crate::proofs::Nexts::walking))]
     pub fn next_member(self, from: usize) -> usize
         requires { from ≤ self.len }
-        ensures { result ≡ from + first_below (self.entry.len - from) (λ j. nodes self.entry (from + j)) }
+        ensures { result ≡ next_member_of self.entry.len self.entry.words.now from }
     {
         if from == self.len {
             return self.len;
@@ -134,7 +133,7 @@ impl<'a> Mask<'a> {
         Members { mask: self, at: 0 }
     }
 
-    // The members in rising order at the front of `out`, which has room for them. By words, and not by `members`, which reads its word again for each.
+    // The members in rising order at the front of `out`, which has room for them. By words: `members` reads its word again for each.
     pub fn write_members(self, out: &mut [u64])
         requires { count_below self.len (nodes self) ≤ length out.old }
         ensures { out.new ≡ over (members_below self.entry.len (nodes self.entry)) out.old }
@@ -181,7 +180,7 @@ pub fn words_for(len: usize) -> usize
     requires { len ≤ side_limit }
     ensures { result ≡ words_needed len }
 {
-    (len + (AbtmTopologyWord::BITS - 1)) / AbtmTopologyWord::BITS
+    len.div_ceil(AbtmTopologyWord::BITS)
 }
 
 // The word count and the bits past the length.
@@ -192,9 +191,7 @@ pub fn check_shape(len: usize, words: &[u64]) -> Result<(), Refusal>
     ensures accepted { IfOk result (λ t. IsMask len words.now) }
 {
     let need = words_for(len);
-    if words.len() != need {
-        return Err(Refusal::wrong_length(need, words.len()));
-    }
+    base::must_be(need, words.len())?;
     let spare = len % AbtmTopologyWord::BITS;
     if spare == 0 {
         return Ok(());
@@ -212,9 +209,7 @@ pub fn check_length(expected: usize, len: usize, words: &[u64]) -> Result<(), Re
     ensures value { result ≡ length_check expected len words.now }
     ensures accepted { IfOk result (λ t. (len ≡ expected) × IsMask expected words.now) }
 {
-    if len != expected {
-        return Err(Refusal::wrong_length(expected, len));
-    }
+    base::must_be(expected, len)?;
     check_shape(len, words)
 }
 
@@ -279,6 +274,14 @@ pub fn bits_below(bound: usize, w: usize) -> u64
     (1u64 << left) - 1
 }
 
+// The bits of word w that lie from `start` up to `end`.
+pub fn bits_between(start: usize, end: usize, w: usize) -> u64
+    requires { (start ≤ side_limit) × (end ≤ side_limit) × (w ≤ side_limit) }
+    ensures { result ≡ word_of (between start end) w }
+{
+    bits_below(end, w) & !bits_below(start, w)
+}
+
 pub fn or_word(len: usize, words: &mut [u64], w: usize, bits: u64)
     requires { IsMask len words.old }
     ensures { words.new ≡ with_word len words.old w bits }
@@ -296,6 +299,6 @@ pub fn add_range(len: usize, words: &mut [u64], start: usize, end: usize)
     ensures { words.new ≡ with_range len words.old start end }
 {
     for w in start / AbtmTopologyWord::BITS..words_for(end) {
-        words[w] |= bits_below(end, w) & !bits_below(start, w);
+        words[w] |= bits_between(start, end, w);
     }
 }

@@ -4,13 +4,16 @@
 ghost use Rattle.std.specs.Prelude.{◌≡◌, IfOk, IfErr, Err};
 ghost use Rattle.word.specs.Answers.{on};
 ghost use Rattle.mask.specs.Mask.{mask_check, IsMask};
-ghost use Rattle.mask.specs.Answers.{new_check, new_words, from_check, from_words, empty_answer, count_answer, contains_answer, set_check, set_words, pair_check, combined_words, union, intersection, and_not_of, intersects_answer, indices_answer, indices_list, or_word_words};
+ghost use Rattle.mask.specs.Answers.{new_check, new_words, from_check, from_words, set_check, set_words, pair_check, combined_words, union, intersection, and_not_of, or_word_words};
 
 use base::Refusal;
 use inner::Mask;
-use word::Operation;
+use word::{AbtmTopologyWord, Operation};
 
 pub mod inner;
+
+// The words of the largest mask that is accepted, for arrays that hold one.
+pub const LARGEST_WORDS: usize = base::SIDE_LIMIT / AbtmTopologyWord::BITS;
 
 // A mask as a caller lends it.
 #[derive(Clone, Copy)]
@@ -19,8 +22,8 @@ pub struct DofMask<'a> {
     pub words: &'a [u64],
 }
 
-// The test for room and the cut stand here and in each function that writes the front of a list: as one function it would hand a part of the list back,
-// and each promise of a whole list would go through that.
+// The test for room and the cut stand here and in each function that writes the front of a list: as one function it would hand a part of the list
+// back, and each promise of a whole list would go through that.
 pub fn new(len: usize, out: &mut [u64]) -> Result<(), Refusal>
     ensures value { result ≡ new_check len out.old }
     ensures out_after { out.new ≡ new_words len out.old }
@@ -55,9 +58,11 @@ pub fn from_indices(len: usize, indices: &[u64], out: &mut [u64]) -> Result<(), 
 }
 
 impl DofMask<'_> {
-    // A mask on its own: 1, 11 for its word count, 12.
+    ghost use Rattle.mask.specs.Views.{check_mask, answer_empty, answer_count, answer_contains, answer_intersects, answer_indices, list_indices};
+
+    // A mask on its own: `OverLimit`, `WrongLength` for its word count, `BitPastLength`.
     pub fn check(self) -> Result<(), Refusal>
-        ensures value { result ≡ mask_check self.entry.len self.entry.words.now }
+        ensures value { result ≡ check_mask self.entry }
         ensures accepted { IfOk result (λ t. IsMask self.entry.len self.entry.words.now) }
     {
         if self.len > base::SIDE_LIMIT {
@@ -67,14 +72,14 @@ impl DofMask<'_> {
     }
 
     pub fn is_empty(self) -> Result<bool, Refusal>
-        ensures { result ≡ empty_answer self.entry.len self.entry.words.now }
+        ensures { result ≡ answer_empty self.entry }
     {
         let mask = self.accept()?;
         Ok(!mask.any_node())
     }
 
     pub fn count_ones(self) -> Result<u64, Refusal>
-        ensures { result ≡ count_answer self.entry.len self.entry.words.now }
+        ensures { result ≡ answer_count self.entry }
     {
         let mask = self.accept()?;
         Ok(mask.count())
@@ -82,14 +87,14 @@ impl DofMask<'_> {
 
     // Past the length the answer is no.
     pub fn contains(self, index: u64) -> Result<bool, Refusal>
-        ensures { result ≡ contains_answer self.entry.len self.entry.words.now index }
+        ensures { result ≡ answer_contains self.entry index }
     {
         let mask = self.accept()?;
         Ok(index < mask.len as u64 && mask.holds(index as usize))
     }
 
     pub fn intersects(self, other: DofMask) -> Result<bool, Refusal>
-        ensures { result ≡ intersects_answer self.entry.len self.entry.words.now other.entry.len other.entry.words.now }
+        ensures { result ≡ answer_intersects self.entry other.entry }
     {
         let (mask, other) = self.accept_pair(other)?;
         Ok(mask.any_common(other))
@@ -97,8 +102,8 @@ impl DofMask<'_> {
 
     // The members in rising order; answers their count.
     pub fn indices(self, out: &mut [u64]) -> Result<u64, Refusal>
-        ensures value { result ≡ indices_answer self.entry.len self.entry.words.now out.old }
-        ensures out_after { out.new ≡ indices_list self.entry.len self.entry.words.now out.old }
+        ensures value { result ≡ answer_indices self.entry out.old }
+        ensures out_after { out.new ≡ list_indices self.entry out.old }
     {
         let mask = self.accept()?;
         let count = mask.count();
@@ -111,12 +116,12 @@ impl DofMask<'_> {
 }
 
 impl<'a> DofMask<'a> {
-    ghost use Rattle.mask.specs.Views.{AcceptedFrom};
+    ghost use Rattle.mask.specs.Views.{check_pair, AcceptedFrom};
 
     // The first, then the second with its length against the first's.
     fn accept_pair<'b>(self, other: DofMask<'b>) -> Result<(Mask<'a>, Mask<'b>), Refusal>
-        ensures refused { IfErr result (λ e. pair_check self.entry.len self.entry.words.now other.entry.len other.entry.words.now ≡ Err e) }
-        ensures accepted { IfOk result (λ m. (pair_check self.entry.len self.entry.words.now other.entry.len other.entry.words.now ≡ Ok tt) × (m.1.len ≡ m.0.len) × AcceptedFrom self.entry m.0 × AcceptedFrom other.entry m.1) }
+        ensures refused { IfErr result (λ e. check_pair self.entry other.entry ≡ Err e) }
+        ensures accepted { IfOk result (λ m. (check_pair self.entry other.entry ≡ Ok tt) × (m.1.len ≡ m.0.len) × AcceptedFrom self.entry m.0 × AcceptedFrom other.entry m.1) }
     {
         let mask = self.accept()?;
         let other = other.accept_of(mask.len)?;

@@ -1,24 +1,28 @@
 -- A node's multiplicity, region by region, and a list of them. Assumes nothing.
-use mathlib.Core.Path.{◌≡◌, refl, sym, ap, ap₂, ◌∙◌}
+use mathlib.Core.Path.{◌≡◌, sym, ap, ap₂, ◌∙◌}
 use mathlib.Core.Logic.{◌⊎◌, inl, inr}
-use mathlib.Core.Bool.{Bool, true, false, cond}
+use mathlib.Core.Bool.{true}
 use mathlib.Core.List.{List, ◌++◌}
-use Prim.Native.Nat.{ℕ, zero, suc, ◌+◌, ◌≤◌, ◌<◌}
+use Prim.Native.Nat.{ℕ, ◌+◌, ◌≤◌, ◌<◌}
 use native.Mathlib.Nat.{zero-add}
 use native.Mathlib.Omega.{arith}
 use lib.ListN.{length, get_or, take, drop, replicate, length-replicate, get_or-replicate, get_or-eq_default}
-use lib.Seq.{ext_get_or, take-length}
-use Rattle.std.specs.List.{filter, range_with_len}
-use Rattle.std.proofs.lemmas.List.FromFn.{length-range_with_len, get_or-range_with_len}
-use Rattle.std.proofs.lemmas.List.Filters.{length-filter_more}
+use lib.Seq.{ext_get_or}
 use Rattle.base.specs.Lists.{list_from}
-use Rattle.base.specs.Sets.{one_if, count_below}
+use Rattle.base.specs.Sets.{one_if}
 use Rattle.base.proofs.Bools.{T_of, lt-or-le}
 use Rattle.base.proofs.Lists.{length-list_from, get_or-list_from, list_from-cong, part-take}
 use Rattle.base.proofs.Sets.{sum-zero, sum-suc, count-le, count-pos}
 use Rattle.mask.specs.Mask.{in_mask}
+use Rattle.multiplicity.specs.declared.FlatRegions.{FlatRegions}
+use Rattle.multiplicity.specs.declared.inner.Regions.{Regions as Accepted}
+use Rattle.multiplicity.specs.Views.{AcceptedFrom}
 use Rattle.multiplicity.specs.Multiplicity.{region_at, holds_in_region, multiplicity_of, multiplicity_stats}
 use Rattle.multiplicity.proofs.Tallies.{stats-cong}
+
+-- a function of the accepted regions is one of those that are lent
+pub as-lent : {A : Type 0} (g : ℕ → ℕ → List ℕ → A) (f : FlatRegions) (r : Accepted) → AcceptedFrom f r → g r.node_count r.region_count r.words.now ≡ g f.node_count f.region_count f.words.now
+as-lent g f r a = ap₂ (λ n k. g n k r.words.now) a.0 a.1 ∙ ap (λ w. g f.node_count f.region_count w.now) a.2
 
 module _ (n : ℕ) (words : List ℕ) (i : ℕ) where
   pub mult-none : multiplicity_of n 0 words i ≡ 0
@@ -37,30 +41,6 @@ module _ (n : ℕ) (words : List ℕ) (i : ℕ) where
   pub mult-pos : (regions q : ℕ) → q < regions → holds_in_region n words q i ≡ true → 0 < multiplicity_of n regions words i
   unfolding multiplicity_of
   mult-pos regions q h t = count-pos regions (λ q. holds_in_region n words q i) q h (T_of (holds_in_region n words q i) t)
-
--- ---- how many numbers of a range a filter keeps
-
-one : (b : Bool) → cond b 1 0 ≡ one_if b
-one true = refl
-one false = refl
-
--- of the first k numbers
-kept : (p : ℕ → Bool) (n k : ℕ) → k ≤ n → length (filter p (take k (range_with_len 0 n))) ≡ count_below k p
-kept p n zero h = sym (sum-zero (λ i. one_if (p i)))
-kept p n (suc k) h =
-    let next : suc k ≡ k + 1 = omega arith in
-    let at : get_or (range_with_len 0 n) k 0 ≡ k = get_or-range_with_len 0 n k 0 (omega arith) ∙ zero-add k in
-    ap (λ (j : ℕ). length (filter p (take j (range_with_len 0 n)))) next
-    ∙ length-filter_more p (range_with_len 0 n) k 0 (omega (arith, length-range_with_len 0 n))
-    ∙ ap₂ (λ (x y : ℕ). x + cond (p y) 1 0) (kept p n k (omega arith)) at
-    ∙ ap (λ (x : ℕ). count_below k p + x) (one (p k))
-    ∙ sym (sum-suc k (λ i. one_if (p i)))
-    ∙ ap (λ (j : ℕ). count_below j p) (sym next)
-
-pub kept-range : (p : ℕ → Bool) (n : ℕ) → length (filter p (range_with_len 0 n)) ≡ count_below n p
-kept-range p n =
-    ap (λ (l : List ℕ). length (filter p l)) (sym (take-length (range_with_len 0 n)) ∙ ap (λ (j : ℕ). take j (range_with_len 0 n)) (length-range_with_len 0 n))
-    ∙ kept p n n (omega arith)
 
 -- ---- a list of multiplicities
 

@@ -2,16 +2,15 @@
 use mathlib.Core.Path.{◌≡◌, sym, ap, ◌∙◌, subst}
 use Rattle.std.specs.Prelude.{Ok}
 use mathlib.Core.Logic.{◌⊎◌, inl, inr, ◌≢◌}
-use mathlib.Core.Bool.{Bool, true, not}
+use mathlib.Core.Bool.{Bool, true}
 use mathlib.Core.List.{List}
 use Prim.Native.Nat.{ℕ, ◌+◌, ◌-◌, ◌*◌, ◌/◌, ◌%◌, ◌^◌, ◌≤◌, ◌<◌}
 use native.Mathlib.Omega.{arith}
 use native.Mathlib.Nat.{mul-le-mul_right, zero-add}
-use borrow.Author.Tests.{leb-true, ltb-true, eqb-true}
+use borrow.Author.Tests.{leb-true, eqb-true}
 use Rattle.std.proofs.Common.{eq-eqb}
 use Rattle.std.specs.List.{list_all, range_with_len}
 use Rattle.std.proofs.lemmas.List.FromFn.{length-range_with_len, get_or-range_with_len}
-use lib.Bits.{bit_and}
 use lib.Dec.{eqb}
 use lib.ListN.{length, get_or, take, drop, length-take, length-drop, get_or-eq_default}
 use lib.Seq.{length-slice}
@@ -19,13 +18,12 @@ use Rattle.base.specs.Checks.{side_limit}
 use Rattle.base.specs.Sets.{every_below}
 use Rattle.base.proofs.Bools.{bool-ext, T_true, T_of, not-T-of, lt-or-le}
 use Rattle.base.proofs.Checks.{passed, length-passed, both-passed}
-use Rattle.base.proofs.Lists.{every-at, every-all, get_or-slice, part_slice}
+use Rattle.base.proofs.Lists.{every-at, every-all, get_or-slice}
 use Rattle.base.proofs.Sets.{every-i, every-e}
 use Rattle.mask.specs.Mask.{words_needed, clean}
 use Rattle.mask.proofs.Masks.{mask-of}
 use Rattle.mask.proofs.Shape.{clean-whole, clean-none, clean-some}
-use Rattle.mask.proofs.Stores.{bit-read}
-use Rattle.multiplicity.specs.Multiplicity.{region_at, holds_in_region, regions_check, multiplicity_check, weight_check, Regions}
+use Rattle.multiplicity.specs.Multiplicity.{region_at, regions_check, AreRegions}
 
 -- ---- places in the flat list
 
@@ -49,15 +47,6 @@ module _ (n : ℕ) (words : List ℕ) (q : ℕ) where
           subst (λ (x : ℕ). x < 2 ^ 64)
           (sym (get_or-eq_default (region_at n words q) 0 {n = w} (omega (arith, length-drop (q * words_needed n) (take ((q + 1) * words_needed n) words), length-take ((q + 1) * words_needed n) words))))
           (omega arith)
-
-  pub region-part : (each : ℕ) → each ≡ words_needed n → take ((q + 1) * each - q * each) (drop (q * each) words) ≡ region_at n words q
-  region-part each e = ap (λ (w : ℕ). take ((q + 1) * w - q * w) (drop (q * w) words)) e ∙ part_slice (q * words_needed n) ((q + 1) * words_needed n) words
-
-  -- a node's bit
-  pub region-read : (i : ℕ) → i < n → not (eqb (bit_and (get_or words (q * words_needed n + i / 64) 0) ((1 * 2 ^ (i % 64)) % 2 ^ 64)) 0) ≡ holds_in_region n words q i
-  region-read i h =
-      ap (λ (x : ℕ). not (eqb (bit_and x ((1 * 2 ^ (i % 64)) % 2 ^ 64)) 0)) (sym (region-word (i / 64) (omega arith)))
-      ∙ bit-read (region_at n words q) i
 
 -- ---- the bits past the nodes
 
@@ -115,7 +104,7 @@ module _ (n regions : ℕ) (words : List ℕ) (flat : length words ≡ regions *
 
 -- ---- acceptance
 
-pub accepted-regions : (n regions : ℕ) (words : List ℕ) → ((w : ℕ) → get_or words w 0 < 2 ^ 64) → regions_check n regions words ≡ Ok tt → Regions n regions words
+pub accepted-regions : (n regions : ℕ) (words : List ℕ) → ((w : ℕ) → get_or words w 0 < 2 ^ 64) → regions_check n regions words ≡ Ok tt → AreRegions n regions words
 unfolding regions_check
 accepted-regions n regions words fits e =
     let a = both-passed _ _ e in
@@ -135,20 +124,3 @@ accepted-regions n regions words fits e =
                 (T_true (clean n (region_at n words q)) (every-e regions (λ q. clean n (region_at n words q)) (T_of _ (passed _ _ d.1)) q h));
           };
     }
-
--- the same where a region and a node are named
-pub accepted-weight : (n regions : ℕ) (words : List ℕ) (region node : ℕ) → ((w : ℕ) → get_or words w 0 < 2 ^ 64) → weight_check n regions words region node ≡ Ok tt
-    → Regions n regions words × (region < regions) × (node < n)
-unfolding weight_check
-accepted-weight n regions words region node fits e =
-    let a = both-passed _ _ e in
-    let b = both-passed _ _ a.1 in
-    (accepted-regions n regions words fits a.0, ltb-true _ _ (passed _ _ b.0), ltb-true _ _ (passed _ _ b.1))
-
--- and where the counts have room
-pub accepted-counts : (n regions : ℕ) (words out : List ℕ) → ((w : ℕ) → get_or words w 0 < 2 ^ 64) → multiplicity_check n regions words out ≡ Ok tt
-    → Regions n regions words × (n ≤ length out)
-unfolding multiplicity_check
-accepted-counts n regions words out fits e =
-    let a = both-passed _ _ e in
-    (accepted-regions n regions words fits a.0, leb-true _ _ (passed _ _ a.1))

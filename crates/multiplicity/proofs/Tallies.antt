@@ -2,7 +2,7 @@
 use mathlib.Core.Path.{◌≡◌, refl, ap}
 use Prim.Native.Nat.{ℕ, ◌<◌}
 use lib.Dec.{ltb}
-use Rattle.base.proofs.Sets.{sum-zero, sum-suc, sum-cong, sum-le, sum-most, largest-none, largest-next, count-le, count-cong, largest-cong, count-in, count-out}
+use Rattle.base.proofs.Sets.{sum-zero, sum-suc, sum-cong, largest-none, largest-next, count-cong, largest-cong}
 use Rattle.multiplicity.specs.Multiplicity.{pairs_of, multiplicity_stats}
 
 -- the counts of the nodes alone matter

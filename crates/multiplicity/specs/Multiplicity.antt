@@ -82,7 +82,7 @@ weight_answer n regions words region node = answer (weight_check n regions words
 
 -- ---- what acceptance gives
 
-pub record Regions (n regions : ℕ) (words : List ℕ) : Type 0 where
+pub record AreRegions (n regions : ℕ) (words : List ℕ) : Type 0 where
   pub few_nodes : n ≤ side_limit
   pub few_regions : regions ≤ region_limit
   pub flat : length words ≡ regions * words_needed n

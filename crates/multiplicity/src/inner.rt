@@ -5,7 +5,7 @@ ghost use Rattle.base.specs.Lists.{list_from};
 ghost use Rattle.base.specs.Sets.{every_below, one_if};
 ghost use Rattle.mask.specs.Mask.{words_needed, clean};
 ghost use Rattle.mask.specs.Views.{nodes};
-ghost use Rattle.multiplicity.specs.Multiplicity.{region_at, regions_check, multiplicity_stats, Regions as AreRegions};
+ghost use Rattle.multiplicity.specs.Multiplicity.{region_at, regions_check, multiplicity_stats, AreRegions};
 
 use crate::{AbtmRegionMultiplicityStats, FlatRegions};
 use base::Refusal;
@@ -46,16 +46,11 @@ fn check_regions(node_count: usize, region_count: usize, words: &[u64]) -> Resul
     ensures value { result ≡ regions_check node_count region_count words.now }
     ensures accepted { IfOk result (λ t. AreRegions node_count region_count words.now) }
 {
-    if node_count > base::SIDE_LIMIT {
-        return Err(Refusal::OverLimit);
-    }
-    if region_count > base::REGION_LIMIT {
+    if node_count > base::SIDE_LIMIT || region_count > base::REGION_LIMIT {
         return Err(Refusal::OverLimit);
     }
     let need = region_count * mask::inner::words_for(node_count);
-    if words.len() != need {
-        return Err(Refusal::wrong_length(need, words.len()));
-    }
+    base::must_be(need, words.len())?;
     if !all_clean(node_count, region_count, words) {
         return Err(Refusal::BitPastLength);
     }
@@ -126,8 +121,21 @@ pub fn tally(region_count: usize, counts: &[u32]) -> AbtmRegionMultiplicityStats
     }
 }
 
-impl Regions<'_> {
+impl<'a> Regions<'a> {
     ghost use Rattle.multiplicity.specs.Views.{held, multiplicity_at};
+
+    // Region q, from 0.
+    fn region(self, q: usize) -> Mask<'a>
+        requires { q < self.region_count }
+        ensures long { result.len ≡ self.entry.node_count }
+        ensures words { result.words.now ≡ region_at self.entry.node_count self.entry.words.now q }
+    {
+        let each = mask::inner::words_for(self.node_count);
+        Mask {
+            len: self.node_count,
+            words: &self.words[q * each..(q + 1) * each],
+        }
+    }
 
     // Each node's multiplicity, on a list of as many counts as nodes. Not by `chunks`: of no nodes a region has no words, and there are no chunks of
     // none.
@@ -136,15 +144,8 @@ impl Regions<'_> {
         ensures { counts.new ≡ list_from (multiplicity_at self.entry) self.entry.node_count 0 }
     {
         counts.fill(0);
-        let each = mask::inner::words_for(self.node_count);
         for q in 0..self.region_count {
-            add_region(
-                Mask {
-                    len: self.node_count,
-                    words: &self.words[q * each..(q + 1) * each],
-                },
-                counts,
-            );
+            add_region(self.region(q), counts);
         }
     }
 
@@ -153,9 +154,7 @@ impl Regions<'_> {
         requires { (region < self.region_count) × (node < self.node_count) }
         ensures { result ≡ held self.entry region node }
     {
-        let each = mask::inner::words_for(self.node_count);
-        let word = self.words[region * each + node / AbtmTopologyWord::BITS];
-        word & (1u64 << (node % AbtmTopologyWord::BITS)) != 0
+        self.region(region).holds(node)
     }
 
     // How many regions hold a node.

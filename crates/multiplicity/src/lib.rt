@@ -1,9 +1,9 @@
-// How many regions hold each node, and the weight of a region at a node: `region_multiplicity` of region.rs, and document 01's weight. The
-// regions stand one after the other in a flat list of words, each a mask of all nodes.
+// How many regions hold each node, and the weight of a region at a node: `region_multiplicity` of region.rs, and its share of the node, which the
+// Rust does not have. The regions stand one after the other in a flat list of words, each a mask of all nodes.
 #![tactic(auto)]
 
 ghost use Rattle.std.specs.Prelude.{◌≡◌};
-ghost use Rattle.multiplicity.specs.Multiplicity.{multiplicity_check, multiplicity_answer, multiplicity_counts, weight_answer};
+ghost use Rattle.multiplicity.specs.Views.{answer_counts, list_counts, answer_weight};
 
 use base::Refusal;
 
@@ -38,8 +38,8 @@ pub fn region_multiplicity(
     regions: FlatRegions,
     counts: &mut [u32],
 ) -> Result<AbtmRegionMultiplicityStats, Refusal>
-    ensures value { result ≡ multiplicity_answer (multiplicity_check regions.entry.node_count regions.entry.region_count regions.entry.words.now counts.old) regions.entry.node_count regions.entry.region_count regions.entry.words.now }
-    ensures counts_after { counts.new ≡ multiplicity_counts (multiplicity_check regions.entry.node_count regions.entry.region_count regions.entry.words.now counts.old) regions.entry.node_count regions.entry.region_count regions.entry.words.now counts.old }
+    ensures value { result ≡ answer_counts regions.entry counts.old }
+    ensures counts_after { counts.new ≡ list_counts regions.entry counts.old }
 {
     let regions = regions.accept()?;
     let need = regions.node_count;
@@ -52,13 +52,10 @@ pub fn region_multiplicity(
 
 // The region's share of the node in parts of 65,536.
 pub fn weight(regions: FlatRegions, region: u64, node: u64) -> Result<u64, Refusal>
-    ensures { result ≡ weight_answer regions.entry.node_count regions.entry.region_count regions.entry.words.now region node }
+    ensures { result ≡ answer_weight regions.entry region node }
 {
     let regions = regions.accept()?;
-    if region >= regions.region_count as u64 {
-        return Err(Refusal::OutOfRange);
-    }
-    if node >= regions.node_count as u64 {
+    if region >= regions.region_count as u64 || node >= regions.node_count as u64 {
         return Err(Refusal::OutOfRange);
     }
     if !regions.holds(region as usize, node as usize) {

@@ -33,16 +33,16 @@ pub accepted-region : (rows cols nrows ncols : ℕ) (ptr idx masks : List ℕ) (
 unfolding region_check sides_check
 accepted-region rows cols nrows ncols ptr idx masks pairs nrows2 ncols2 ptr2 idx2 masks2 pairs2 len words fits fits2 fits3 e =
     let a = both-passed _ _ e in
-    let b = both-passed _ _ a.0 in
+    let f = both-passed _ _ a.0 in
+    let b = both-passed _ _ f.0 in
     let d = both-passed _ _ b.1 in
-    let f = both-passed _ _ a.1 in
     let t = accepted-topology nrows ncols ptr idx masks pairs nrows2 ncols2 ptr2 idx2 masks2 pairs2 fits fits2 b.0 in
-    let square : nrows ≡ ncols = eqb-true _ _ (passed _ _ f.0) in
+    let square : nrows ≡ ncols = eqb-true _ _ (passed _ _ f.1) in
     record {
       as_rows = eqb-true _ _ (passed _ _ d.0);
       as_cols = square ∙ eqb-true _ _ (passed _ _ d.1);
       topology = subst (λ (n : ℕ). IsTopology nrows n ptr idx masks ptr2 idx2 masks2) (sym square) t.topology;
-      mask = (accepted-length nrows len words t.topology.rows.shape.few_rows fits3 f.1).1;
+      mask = (accepted-length nrows len words t.topology.rows.shape.few_rows fits3 a.1).1;
     }
 
 pub record Accepts (n : ℕ) (ptr idx masks ptr2 idx2 masks2 words row_ptr col-idx : List ℕ) (values : List Float) : Type 0 where

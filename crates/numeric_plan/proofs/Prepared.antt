@@ -56,13 +56,13 @@ module _ (n : ℕ) (p : ℕ → Bool) (s : ℕ → ℕ → Bool) (ptr cols : Lis
       pub plan_fits : plan_room_for counts (length nodes) (length lptr) (length lcols) (length source_ptr) (length sources) ≡ (pattern_room n p s nodes lptr lcols then plan_room (pair_entries n p s ptr cols) source_ptr sources)
       unfolding plan_room_for plan_room
       plan_fits =
-          ap (λ (c : Counts). room_for c.members c.pairs (length nodes) (length lptr) (length lcols) then must (ltb c.pairs (length source_ptr)) ListTooShort then must (leb c.sources (length sources)) ListTooShort) e
+          ap (λ (c : Counts). room_for c.members c.rows.pairs (length nodes) (length lptr) (length lcols) then must (ltb c.rows.pairs (length source_ptr)) ListTooShort then must (leb c.rows.sources (length sources)) ListTooShort) e
           ∙ ap₂ (λ (a b : ℕ). room_for (count_below n p) (pairs_inside n p s) (length nodes) (length lptr) (length lcols) then must (ltb a (length source_ptr)) ListTooShort then must (leb b (length sources)) ListTooShort) (sym (lists_length n p s ptr cols)) (sym (sources-length n p s ptr cols m accepted))
           ∙ ap (λ (c : Check). c then must (ltb (length lists) (length source_ptr)) ListTooShort then must (leb (length (plan_sources lists)) (length sources)) ListTooShort) (room_is n p s nodes lptr lcols (count_below n p) (pairs_inside n p s) refl refl)
 
     -- the count of sources is the plan's
-    pub counted-sources : counts.sources ≡ length (plan_sources (pair_entries n p s ptr cols))
-    counted-sources = ap (λ (c : Counts). c.sources) e ∙ sym (sources-length n p s ptr cols m accepted)
+    pub counted-sources : counts.rows.sources ≡ length (plan_sources (pair_entries n p s ptr cols))
+    counted-sources = ap (λ (c : Counts). c.rows.sources) e ∙ sym (sources-length n p s ptr cols m accepted)
 
     -- what the statistics' casts need
     pub counts-small : Small counts

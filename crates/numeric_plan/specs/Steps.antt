@@ -40,22 +40,30 @@ pub record Marked (n : ℕ) (region paired : List ℕ) (s : ℕ → ℕ → Bool
 -- 25, by the counts
 unfoldable pub plan_room_for : Counts → ℕ → ℕ → ℕ → ℕ → ℕ → Check
 plan_room_for c nodes pointers columns source_pointers sources =
-    room_for c.members c.pairs nodes pointers columns then must (ltb c.pairs source_pointers) ListTooShort then must (leb c.sources sources) ListTooShort
+    room_for c.members c.rows.pairs nodes pointers columns then must (ltb c.rows.pairs source_pointers) ListTooShort then must (leb c.rows.sources sources) ListTooShort
+
+-- the lists reach the lengths that so many members, pairs and sources need
+pub record ListsFit (m pairs terms : ℕ) (nodes ptr cols source_ptr sources : List ℕ) : Type 0 where
+  pub members : m ≤ length nodes
+  pub pointers : m < length ptr
+  pub columns : pairs ≤ length cols
+  pub source_pointers : pairs < length source_ptr
+  pub entry_sources : terms ≤ length sources
 
 -- within what accepted inputs can give
 pub record Small (c : Counts) : Type 0 where
   pub few_members : c.members ≤ side_limit
-  pub few_sources : c.sources ≤ entry_limit
-  pub sourced : c.pairs ≤ c.sources
+  pub few_sources : c.rows.sources ≤ entry_limit
+  pub sourced : c.rows.pairs ≤ c.rows.sources
 
 -- direct where there are as many sources as pairs
 abbrev pub plan_by_counts : Counts → AbtmLocalNumericPlanStats
 plan_by_counts c =
     record {
       local_nodes = c.members;
-      local_nnz = c.pairs;
-      source_terms = c.sources;
-      duplicate_source_terms = c.sources - c.pairs;
-      direct_source_map = eqb c.sources c.pairs;
-      plan_bytes = bytes_of_pattern c.members c.pairs + 4 * (c.pairs + 1) + 4 * c.sources;
+      local_nnz = c.rows.pairs;
+      source_terms = c.rows.sources;
+      duplicate_source_terms = c.rows.sources - c.rows.pairs;
+      direct_source_map = eqb c.rows.sources c.rows.pairs;
+      plan_bytes = bytes_of_pattern c.members c.rows.pairs + 4 * (c.rows.pairs + 1) + 4 * c.rows.sources;
     }

@@ -1,4 +1,4 @@
--- What document 01 says of a system that was accepted, and of what is lent to a call.
+-- A plan's lists and checks, of a system that was accepted and of what is lent to a call.
 use Rattle.std.specs.Prelude.{List, ℕ}
 use Rattle.base.specs.Checks.{Check}
 use Rattle.csr32.specs.declared.Csr32Matrix.{Csr32Matrix}

@@ -1,26 +1,26 @@
 // A region's plan, its room, lists and statistics, for callers that have checked: no part of the API.
 ghost use Rattle.std.specs.Prelude.{◌≡◌, IfOk, ◌+◌, ◌<◌, ◌≤◌, T, Ok, length, replicate};
 ghost use Rattle.base.specs.Lists.{join_below, over, placed};
-ghost use Rattle.base.specs.Sets.{members_below};
 ghost use Rattle.mask.specs.Mask.{words_needed};
 ghost use Rattle.mask.specs.Views.{nodes};
 ghost use Rattle.side.specs.Views.{pairs};
-ghost use Rattle.pattern.specs.Pattern.{pattern_ptr, pattern_columns, nodes_left, ptr_left, columns_left};
+ghost use Rattle.pattern.specs.Pattern.{nodes_left, ptr_left, columns_left};
 ghost use Rattle.sources.specs.Steps.{ends_from, Put};
 ghost use Rattle.gather.specs.Plan.{plan_sources, plan_ptr};
 ghost use Rattle.numeric_plan.specs.Plan.{sides_check, plan_answer, source_ptr_left, sources_left};
-ghost use Rattle.numeric_plan.specs.Steps.{Tables, RowRoom, Marked, plan_room_for, Small, plan_by_counts};
+ghost use Rattle.numeric_plan.specs.Steps.{Tables, RowRoom, Marked, ListsFit, plan_room_for, Small, plan_by_counts};
 ghost use Rattle.numeric_plan.specs.Views.{check_lists, columns, entries, lists};
 ghost use Rattle.binding.specs.Views.{check_binding};
-ghost use Rattle.pattern.specs.Views.{size, kept, numbers};
+ghost use Rattle.pattern.specs.Views.{size, kept, numbers, member_list, ptr_list, column_list};
 
 use crate::AbtmLocalNumericPlanStats;
 use base::Refusal;
 use binding::Counts;
 use binding::inner::System;
 use csr32::inner::Matrix;
+use mask::LARGEST_WORDS;
 use mask::inner::Mask;
-use pattern::inner::Ranked;
+use pattern::inner::{Ranked, Room, SMALL_SIDE, SMALL_WORDS};
 use side::inner::Side;
 use sources::RowEnd;
 use sources::inner::{Pairs, Row, RowSources};
@@ -47,8 +47,8 @@ struct Numbered<'a, 'p, 't> {
 }
 
 impl Bound<'_, '_> {
-    // The plan on lists that reach their needed lengths, with room for the table of ranks. The lists that are written are handed in one by one, here and
-    // below: each has its equation, and in a struct behind `&mut` each contract would say besides that the references stay.
+    // The plan on lists that reach their needed lengths, with room for the table of ranks. The lists that are written are handed in one by one, here
+    // and below: each has its equation, and in a struct behind `&mut` each contract would say besides that the references stay.
     fn write_ranked(
         self,
         global_nodes: &mut [u32],
@@ -58,10 +58,11 @@ impl Bound<'_, '_> {
         sources: &mut [u32],
         ranks: &mut [u32],
     )
-        requires { (size self.system.local ≤ length global_nodes.old) × (size self.system.local < length local_ptr.old) × (kept self.system.local ≤ length local_cols.old) × (kept self.system.local < length source_ptr.old) × (self.terms ≤ length sources.old) × (words_needed self.system.local.region.len ≤ length ranks.old) }
-        ensures members { global_nodes.new ≡ over (members_below self.entry.system.local.region.len (nodes self.entry.system.local.region)) global_nodes.old }
-        ensures pointers { local_ptr.new ≡ over (pattern_ptr self.entry.system.local.region.len (nodes self.entry.system.local.region) (pairs self.entry.system.local.rows)) local_ptr.old }
-        ensures columns { local_cols.new ≡ over (pattern_columns self.entry.system.local.region.len (nodes self.entry.system.local.region) (pairs self.entry.system.local.rows)) local_cols.old }
+        requires fits { ListsFit (size self.system.local) (kept self.system.local) self.terms global_nodes.old local_ptr.old local_cols.old source_ptr.old sources.old }
+        requires table { words_needed self.system.local.region.len ≤ length ranks.old }
+        ensures members { global_nodes.new ≡ over (member_list self.entry.system.local) global_nodes.old }
+        ensures pointers { local_ptr.new ≡ over (ptr_list self.entry.system.local) local_ptr.old }
+        ensures columns { local_cols.new ≡ over (column_list self.entry.system.local) local_cols.old }
         ensures starts { source_ptr.new ≡ over (plan_ptr (lists self.entry.system)) source_ptr.old }
         ensures entries { sources.new ≡ over (plan_sources (lists self.entry.system)) sources.old }
     {
@@ -85,15 +86,15 @@ impl Bound<'_, '_> {
         source_ptr: &mut [u32],
         sources: &mut [u32],
     )
-        requires { (size self.system.local ≤ length global_nodes.old) × (size self.system.local < length local_ptr.old) × (kept self.system.local ≤ length local_cols.old) × (kept self.system.local < length source_ptr.old) × (self.terms ≤ length sources.old) }
-        ensures members { global_nodes.new ≡ over (members_below self.entry.system.local.region.len (nodes self.entry.system.local.region)) global_nodes.old }
-        ensures pointers { local_ptr.new ≡ over (pattern_ptr self.entry.system.local.region.len (nodes self.entry.system.local.region) (pairs self.entry.system.local.rows)) local_ptr.old }
-        ensures columns { local_cols.new ≡ over (pattern_columns self.entry.system.local.region.len (nodes self.entry.system.local.region) (pairs self.entry.system.local.rows)) local_cols.old }
+        requires { ListsFit (size self.system.local) (kept self.system.local) self.terms global_nodes.old local_ptr.old local_cols.old source_ptr.old sources.old }
+        ensures members { global_nodes.new ≡ over (member_list self.entry.system.local) global_nodes.old }
+        ensures pointers { local_ptr.new ≡ over (ptr_list self.entry.system.local) local_ptr.old }
+        ensures columns { local_cols.new ≡ over (column_list self.entry.system.local) local_cols.old }
         ensures starts { source_ptr.new ≡ over (plan_ptr (lists self.entry.system)) source_ptr.old }
         ensures entries { sources.new ≡ over (plan_sources (lists self.entry.system)) sources.old }
     {
-        if self.system.local.region.len <= pattern::inner::SMALL_SIDE {
-            let mut small: [u32; 256] = [0; 256];
+        if self.system.local.region.len <= SMALL_SIDE {
+            let mut small: [u32; SMALL_WORDS] = [0; SMALL_WORDS];
             self.write_ranked(
                 global_nodes,
                 local_ptr,
@@ -104,7 +105,7 @@ impl Bound<'_, '_> {
             );
             return;
         }
-        let mut large: [u32; 16384] = [0; 16384];
+        let mut large: [u32; LARGEST_WORDS] = [0; LARGEST_WORDS];
         self.write_ranked(
             global_nodes,
             local_ptr,
@@ -171,15 +172,12 @@ impl Numbered<'_, '_, '_> {
             first,
             last,
         };
-        let all = pairs.write_counted(row, source_ptr, sources, at);
-        RowEnd {
-            pair: last,
-            source: all,
-        }
+        let source = pairs.write_counted(row, source_ptr, sources, at);
+        RowEnd { pair: last, source }
     }
 
-    // The rows of the first `members` nodes, which are all of them, each from where the one before it ends: at pointer k + 1 for member k, since the list
-    // of pointers begins with a zero.
+    // The rows of the first `members` nodes, which are all of them, each from where the one before it ends: at pointer k + 1 for member k, since the
+    // list of pointers begins with a zero.
     fn write_rows(
         self,
         members: usize,
@@ -188,9 +186,10 @@ impl Numbered<'_, '_, '_> {
         source_ptr: &mut [u32],
         sources: &mut [u32],
     )
-        requires { (members ≡ size self.bound.system.local) × (members < length local_ptr.old) × (kept self.bound.system.local ≤ length local_cols.old) × (kept self.bound.system.local < length source_ptr.old) × (self.bound.terms ≤ length sources.old) }
-        ensures pointers { local_ptr.new ≡ over (pattern_ptr self.entry.bound.system.local.region.len (nodes self.entry.bound.system.local.region) (pairs self.entry.bound.system.local.rows)) local_ptr.old }
-        ensures columns { local_cols.new ≡ over (pattern_columns self.entry.bound.system.local.region.len (nodes self.entry.bound.system.local.region) (pairs self.entry.bound.system.local.rows)) local_cols.old }
+        requires all { members ≡ size self.bound.system.local }
+        requires fits { ListsFit members (kept self.bound.system.local) self.bound.terms self.nodes.now local_ptr.old local_cols.old source_ptr.old sources.old }
+        ensures pointers { local_ptr.new ≡ over (ptr_list self.entry.bound.system.local) local_ptr.old }
+        ensures columns { local_cols.new ≡ over (column_list self.entry.bound.system.local) local_cols.old }
         ensures starts { source_ptr.new ≡ over (plan_ptr (lists self.entry.bound.system)) source_ptr.old }
         ensures entries { sources.new ≡ over (plan_sources (lists self.entry.bound.system)) sources.old }
     {
@@ -220,32 +219,26 @@ pub fn check_sides(rows: Side, matrix: Matrix) -> Result<(), Refusal>
     ensures value { result ≡ sides_check rows.entry.nrows rows.entry.ncols matrix.entry.nrows matrix.entry.ncols }
     ensures alike { IfOk result (λ t. (rows.entry.nrows ≡ matrix.entry.nrows) × (rows.entry.ncols ≡ matrix.entry.ncols)) }
 {
-    if rows.nrows != matrix.nrows {
-        return Err(Refusal::SidesDiffer);
-    }
-    if rows.ncols != matrix.ncols {
+    if rows.nrows != matrix.nrows || rows.ncols != matrix.ncols {
         return Err(Refusal::SidesDiffer);
     }
     Ok(())
 }
 
-// The lengths of the lists: numbers, as in `pattern::inner::check_room`.
+// How long a plan's lists are: its pattern's, and those of its sources.
+#[derive(Clone, Copy)]
+pub struct PlanRoom {
+    pub pattern: Room,
+    pub source_pointers: usize,
+    pub sources: usize,
+}
+
 #[tactic(auto, using(base::proofs::Checks::checks), unfolding(crate::specs::Steps::plan_room_for))]
-pub fn check_room(
-    counts: Counts,
-    nodes: usize,
-    pointers: usize,
-    columns: usize,
-    source_pointers: usize,
-    sources: usize,
-) -> Result<(), Refusal>
-    ensures { result ≡ plan_room_for counts nodes pointers columns source_pointers sources }
+pub fn check_room(counts: Counts, room: PlanRoom) -> Result<(), Refusal>
+    ensures { result ≡ plan_room_for counts room.pattern.nodes room.pattern.pointers room.pattern.columns room.source_pointers room.sources }
 {
-    pattern::inner::check_room(counts.members, counts.pairs, nodes, pointers, columns)?;
-    if counts.pairs >= source_pointers {
-        return Err(Refusal::ListTooShort);
-    }
-    if counts.sources > sources {
+    pattern::inner::check_room(counts.members, counts.rows.pairs, room.pattern)?;
+    if counts.rows.pairs >= room.source_pointers || counts.rows.sources > room.sources {
         return Err(Refusal::ListTooShort);
     }
     Ok(())
@@ -258,19 +251,17 @@ pub fn stats(counts: Counts) -> AbtmLocalNumericPlanStats
 {
     AbtmLocalNumericPlanStats {
         local_nodes: counts.members as u32,
-        local_nnz: counts.pairs as u32,
-        source_terms: counts.sources as u32,
-        duplicate_source_terms: (counts.sources - counts.pairs) as u32,
-        direct_source_map: counts.sources == counts.pairs,
-        plan_bytes: (4 * counts.members
-            + 4 * (counts.members + 1)
-            + 4 * counts.pairs
-            + 4 * (counts.pairs + 1)
-            + 4 * counts.sources) as u32,
+        local_nnz: counts.rows.pairs as u32,
+        source_terms: counts.rows.sources as u32,
+        duplicate_source_terms: (counts.rows.sources - counts.rows.pairs) as u32,
+        direct_source_map: counts.rows.sources == counts.rows.pairs,
+        plan_bytes: (pattern::inner::bytes(counts.members, counts.rows.pairs)
+            + 4 * (counts.rows.pairs + 1)
+            + 4 * counts.rows.sources) as u32,
     }
 }
 
-// The plan of a region: by local row 23 and 24, the room, the lists. `paired` is scratch, all zero.
+// The plan of a region: whether its rows bind, the room, the lists. `paired` is scratch, all zero.
 fn prepare_marked(
     system: System,
     global_nodes: &mut [u32],
@@ -291,14 +282,16 @@ fn prepare_marked(
     let n = system.local.region.len;
     let need = mask::inner::words_for(n);
     let counts = system.bind_rows(&mut paired[..need])?;
-    check_room(
-        counts,
-        global_nodes.len(),
-        local_ptr.len(),
-        local_cols.len(),
-        source_ptr.len(),
-        sources.len(),
-    )?;
+    let room = PlanRoom {
+        pattern: Room {
+            nodes: global_nodes.len(),
+            pointers: local_ptr.len(),
+            columns: local_cols.len(),
+        },
+        source_pointers: source_ptr.len(),
+        sources: sources.len(),
+    };
+    check_room(counts, room)?;
     let marks = Mask {
         len: n,
         words: &paired[..need],
@@ -306,7 +299,7 @@ fn prepare_marked(
     let bound = Bound {
         system,
         paired: marks,
-        terms: counts.sources,
+        terms: counts.rows.sources,
     };
     bound.write(global_nodes, local_ptr, local_cols, source_ptr, sources);
     Ok(stats(counts))
@@ -328,8 +321,8 @@ pub fn prepare(
     ensures starts { source_ptr.new ≡ source_ptr_left (check_lists system.entry global_nodes.old local_ptr.old local_cols.old source_ptr.old sources.old) (lists system.entry) source_ptr.old }
     ensures entries { sources.new ≡ sources_left (check_lists system.entry global_nodes.old local_ptr.old local_cols.old source_ptr.old sources.old) (lists system.entry) sources.old }
 {
-    if system.local.region.len <= pattern::inner::SMALL_SIDE {
-        let mut small: [u64; 256] = [0; 256];
+    if system.local.region.len <= SMALL_SIDE {
+        let mut small: [u64; SMALL_WORDS] = [0; SMALL_WORDS];
         return prepare_marked(
             system,
             global_nodes,
@@ -340,7 +333,7 @@ pub fn prepare(
             &mut small,
         );
     }
-    let mut large: [u64; 16384] = [0; 16384];
+    let mut large: [u64; LARGEST_WORDS] = [0; LARGEST_WORDS];
     prepare_marked(
         system,
         global_nodes,

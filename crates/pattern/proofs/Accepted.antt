@@ -1,5 +1,5 @@
 -- What acceptance gives a pattern: a square topology, a mask of its length, lists that reach their needed lengths. Assumes nothing.
-use mathlib.Core.Path.{◌≡◌, refl, sym, ap, ap₂, ◌∙◌, subst}
+use mathlib.Core.Path.{◌≡◌, sym, ap, ap₂, ◌∙◌, subst}
 use Rattle.std.specs.Prelude.{Ok}
 use Rattle.std.proofs.Common.{Bor}
 use mathlib.Core.Bool.{Bool}
@@ -9,7 +9,7 @@ use borrow.Author.Tests.{eqb-true, leb-true, ltb-true}
 use lib.ListN.{length, get_or}
 use Rattle.base.specs.Checks.{Check}
 use Rattle.base.specs.Sets.{count_below}
-use Rattle.base.proofs.Checks.{both-passed, passed, group-pass}
+use Rattle.base.proofs.Checks.{both-passed, passed}
 use Rattle.mask.specs.declared.DofMask.{DofMask}
 use Rattle.mask.specs.Mask.{in_mask, IsMask}
 use Rattle.mask.proofs.Masks.{accepted-length}
@@ -22,7 +22,7 @@ use Rattle.dual_topology.specs.Check.{topology_check, IsTopology}
 use Rattle.dual_topology.proofs.Accepted.{accepted-topology}
 use Rattle.pattern.specs.declared.inner.Local.{Local}
 use Rattle.pattern.specs.Pattern.{region_check, pattern_room, pattern_check, pairs_inside, stats_of_pattern}
-use Rattle.pattern.specs.Steps.{square_region, region_kept, room_for, stats_by_counts}
+use Rattle.pattern.specs.Steps.{region_kept, room_for, stats_by_counts}
 use Rattle.pattern.specs.Views.{AcceptedFrom}
 use Rattle.pattern.specs.declared.RegionKept.{RegionKept}
 use Rattle.pattern.specs.declared.AbtmLocalSubmatrixPatternStats.{AbtmLocalSubmatrixPatternStats}
@@ -38,18 +38,17 @@ pub accepted-region : (nrows ncols : ℕ) (ptr idx masks : List ℕ) (pairs nrow
 unfolding region_check
 accepted-region nrows ncols ptr idx masks pairs nrows2 ncols2 ptr2 idx2 masks2 pairs2 len region fits fits2 fits3 e =
     let a = both-passed _ _ e in
-    let b = both-passed _ _ a.1 in
-    let t = accepted-topology nrows ncols ptr idx masks pairs nrows2 ncols2 ptr2 idx2 masks2 pairs2 fits fits2 a.0 in
-    let square : nrows ≡ ncols = eqb-true _ _ (passed _ _ b.0) in
+    let b = both-passed _ _ a.0 in
+    let t = accepted-topology nrows ncols ptr idx masks pairs nrows2 ncols2 ptr2 idx2 masks2 pairs2 fits fits2 b.0 in
+    let square : nrows ≡ ncols = eqb-true _ _ (passed _ _ b.1) in
     record {
       topology = subst (λ (n : ℕ). IsTopology nrows n ptr idx masks ptr2 idx2 masks2) (sym square) t.topology;
-      mask = (accepted-length nrows len region t.topology.rows.shape.few_rows fits3 b.1).1;
+      mask = (accepted-length nrows len region t.topology.rows.shape.few_rows fits3 a.1).1;
     }
 
 -- what is left to check of an accepted topology is the rest of the whole check, however the topology's part c is made
-pub local-check : (c : Check) (nrows ncols n m len : ℕ) (words : List ℕ) → c ≡ Ok tt → n ≡ nrows → m ≡ ncols → square_region n m len words ≡ region_check c nrows ncols len words
-unfolding square_region region_check
-local-check c nrows ncols n m len words e a b = ap₂ (λ (x y : ℕ). square_region x y len words) a b ∙ group-pass c _ _ e refl
+pub local-check : (c : Check) (nrows ncols n m len : ℕ) (words : List ℕ) → c ≡ Ok tt → n ≡ nrows → m ≡ ncols → region_check (Ok tt) n m len words ≡ region_check c nrows ncols len words
+local-check c nrows ncols n m len words e a b = ap₂ (λ (x y : ℕ). region_check (Ok tt) x y len words) a b ∙ ap (λ (k : Check). region_check k nrows ncols len words) (sym e)
 
 -- an accepted region speaks of what was lent
 pub record Lent (rows : AbtmTopology) (region : DofMask) (l : Local) : Type 0 where

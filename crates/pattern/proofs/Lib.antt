@@ -1,4 +1,3 @@
-pub mod Ranks
 pub mod Coming
 pub mod Words
 pub mod Rows

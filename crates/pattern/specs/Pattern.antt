@@ -4,7 +4,7 @@ use Rattle.std.specs.Prelude.{Bool, false, cond, ◌&&◌, List, map, ℕ, ◌+�
 use Rattle.std.specs.Prelude.{Result}
 use Rattle.base.specs.Checks.{Check, answer}
 use Rattle.base.specs.declared.Refusal.{Refusal}
-use Rattle.base.specs.declared.Refusal.TheVariants.{NotSquare, ListTooShort}
+use Rattle.base.specs.declared.Refusal.TheVariants.{ListTooShort}
 use Rattle.std.specs.Float.{fin, binary64}
 use Rattle.std.specs.Float.Ieee.{sub, of_bits}
 use Rattle.base.specs.Checks.{must, ◌then◌, leaves}
@@ -12,6 +12,7 @@ use Rattle.base.specs.Lists.{list_from, join_below, over}
 use Rattle.base.specs.Sets.{count_below, sum_over, members_below}
 use Rattle.mask.specs.Mask.{in_mask, length_check}
 use Rattle.side.specs.Side.{words_of_row}
+use Rattle.dual_topology.specs.Check.{square_topology}
 use Rattle.topology.specs.Statistics.{ratio}
 use Rattle.pattern.specs.declared.AbtmLocalSubmatrixPatternStats.{AbtmLocalSubmatrixPatternStats}
 
@@ -62,7 +63,7 @@ pattern_room n p s nodes ptr cols =
 
 -- the topology, 10, the mask
 unfoldable pub region_check : Check → ℕ → ℕ → ℕ → List ℕ → Check
-region_check topology nrows ncols len words = topology then must (eqb nrows ncols) NotSquare then length_check nrows len words
+region_check topology nrows ncols len words = square_topology topology nrows ncols then length_check nrows len words
 
 unfoldable pub pattern_check : Check → ℕ → ℕ → ℕ → List ℕ → (ℕ → ℕ → Bool) → List ℕ → List ℕ → List ℕ → Check
 pattern_check topology nrows ncols len words s nodes ptr cols =

@@ -1,6 +1,6 @@
 // The steps of a pattern, for callers that have checked: no part of the API.
 ghost use Rattle.std.specs.Prelude.{◌≡◌, Ok, Err, IfOk, IfErr, map, ℕ, ◌+◌, ◌*◌, ◌<◌, ◌≤◌, length, get_or};
-ghost use Rattle.base.specs.Checks.{side_limit};
+ghost use Rattle.base.specs.Checks.{side_limit, entry_limit};
 ghost use Rattle.base.specs.Lists.{over, placed};
 ghost use Rattle.base.specs.Sets.{count_below, members_below};
 ghost use Rattle.word.specs.Bits.{bit_at, set_bits};
@@ -8,19 +8,21 @@ ghost use Rattle.mask.specs.Mask.{in_mask, words_needed};
 ghost use Rattle.mask.specs.Views.{nodes};
 ghost use Rattle.side.specs.Check.{IsSide};
 ghost use Rattle.side.specs.Views.{pairs};
-ghost use Rattle.pattern.specs.Pattern.{number_of, inside, pattern_ptr, pattern_columns};
+ghost use Rattle.pattern.specs.Pattern.{number_of, inside, bytes_of_pattern};
 ghost use Rattle.pattern.specs.Steps.{kept_of_row, region_kept, room_for, ranks_of, Small, stats_by_counts};
 
 use crate::{AbtmLocalSubmatrixPatternStats, RegionKept, RowKept};
 use base::Refusal;
-use mask::DofMask;
 use mask::inner::Mask;
+use mask::{DofMask, LARGEST_WORDS};
 use side::inner::Side;
 use word::AbtmTopologyWord;
-use word::inner::Bits;
+use word::inner::{Bits, rank};
 
-// A table of 256 words' ranks is enough up to this side.
-pub const SMALL_SIDE: usize = 16384;
+// Tables of this many words are enough up to this side.
+pub const SMALL_WORDS: usize = 256;
+
+pub const SMALL_SIDE: usize = SMALL_WORDS * AbtmTopologyWord::BITS;
 
 // The rows of a square topology and a region of its nodes.
 #[derive(Clone, Copy)]
@@ -56,10 +58,10 @@ impl<'a> Local<'a> {
 }
 
 impl Local<'_> {
-    ghost use Rattle.pattern.specs.Views.{size, kept};
+    ghost use Rattle.pattern.specs.Views.{size, kept, member_list, ptr_list, column_list};
 
-    // The words of row r: how many, their bits, and those inside the region. A row's words are a position in two lists, as document 01 has it, and so are
-    // walked by index, here and in `write_row`: `Side::row` is no plainer, because its two lists are walked by one number too.
+    // The words of row r: how many, their bits, and those inside the region. A row's words are a position in two lists, here and in `write_row`: the
+    // form that document 01 asks for in the place of the Rust's iterator `words()` (its section on modules in port order).
     pub fn count_row(self, r: usize) -> RowKept
         requires { r < self.region.len }
         ensures { result ≡ kept_of_row self.entry.region.len (nodes self.entry.region) (pairs self.entry.rows) r }
@@ -86,22 +88,12 @@ impl Local<'_> {
         ensures { result ≡ region_kept self.entry.region.len (nodes self.entry.region) (pairs self.entry.rows) }
     {
         let mut members: usize = 0;
-        let mut words: usize = 0;
-        let mut candidates: usize = 0;
-        let mut kept: usize = 0;
+        let mut rows = RowKept::default();
         for r in self.region.members() {
-            let row = self.count_row(r);
             members += 1;
-            words += row.words;
-            candidates += row.candidates;
-            kept += row.kept;
+            rows = rows + self.count_row(r);
         }
-        RegionKept {
-            members,
-            words,
-            candidates,
-            kept,
-        }
+        RegionKept { members, rows }
     }
 
     // The pattern on lists that reach their needed lengths, with room for the table of ranks.
@@ -113,9 +105,9 @@ impl Local<'_> {
         ranks: &mut [u32],
     )
         requires { (size self ≤ length global_nodes.old) × (size self < length row_ptr.old) × (kept self ≤ length col_idx.old) × (words_needed self.region.len ≤ length ranks.old) }
-        ensures members { global_nodes.new ≡ over (members_below self.entry.region.len (nodes self.entry.region)) global_nodes.old }
-        ensures pointers { row_ptr.new ≡ over (pattern_ptr self.entry.region.len (nodes self.entry.region) (pairs self.entry.rows)) row_ptr.old }
-        ensures columns { col_idx.new ≡ over (pattern_columns self.entry.region.len (nodes self.entry.region) (pairs self.entry.rows)) col_idx.old }
+        ensures members { global_nodes.new ≡ over (member_list self.entry) global_nodes.old }
+        ensures pointers { row_ptr.new ≡ over (ptr_list self.entry) row_ptr.old }
+        ensures columns { col_idx.new ≡ over (column_list self.entry) col_idx.old }
     {
         fill_ranks(self.region, ranks);
         let ranked = Ranked { local: self, ranks };
@@ -128,21 +120,21 @@ impl Local<'_> {
         }
     }
 
-    // The pattern with a table of ranks of its own, an array since there is no heap: a small one for a small side, where to clear the large one would cost
-    // more than the rest. A const parameter for the length is no plainer, because the function of either length would have all these clauses again. The
-    // lists that are written are handed in one by one, each with its equation.
+    // The pattern with a table of ranks of its own, an array since there is no heap: a small one for a small side, where to clear the large one would
+    // cost more than the rest. A const parameter for the length is no plainer, because the function of either length would have all these clauses
+    // again. The lists that are written are handed in one by one, each with its equation.
     pub fn write(self, global_nodes: &mut [u32], row_ptr: &mut [u32], col_idx: &mut [u32])
         requires { (size self ≤ length global_nodes.old) × (size self < length row_ptr.old) × (kept self ≤ length col_idx.old) }
-        ensures members { global_nodes.new ≡ over (members_below self.entry.region.len (nodes self.entry.region)) global_nodes.old }
-        ensures pointers { row_ptr.new ≡ over (pattern_ptr self.entry.region.len (nodes self.entry.region) (pairs self.entry.rows)) row_ptr.old }
-        ensures columns { col_idx.new ≡ over (pattern_columns self.entry.region.len (nodes self.entry.region) (pairs self.entry.rows)) col_idx.old }
+        ensures members { global_nodes.new ≡ over (member_list self.entry) global_nodes.old }
+        ensures pointers { row_ptr.new ≡ over (ptr_list self.entry) row_ptr.old }
+        ensures columns { col_idx.new ≡ over (column_list self.entry) col_idx.old }
     {
         if self.region.len <= SMALL_SIDE {
-            let mut small: [u32; 256] = [0; 256];
+            let mut small: [u32; SMALL_WORDS] = [0; SMALL_WORDS];
             self.write_ranked(global_nodes, row_ptr, col_idx, &mut small);
             return;
         }
-        let mut large: [u32; 16384] = [0; 16384];
+        let mut large: [u32; LARGEST_WORDS] = [0; LARGEST_WORDS];
         self.write_ranked(global_nodes, row_ptr, col_idx, &mut large);
     }
 }
@@ -157,7 +149,7 @@ impl Ranked<'_, '_> {
     {
         let w = c as usize / AbtmTopologyWord::BITS;
         let b = c as usize % AbtmTopologyWord::BITS;
-        self.ranks[w] + u64::count_ones(((1u64 << b) - 1) & self.local.region.words[w])
+        self.ranks[w] + rank(self.local.region.words[w], b)
     }
 
     // The columns of row r that are inside, each by its number: written from `at` on, since all rows share the list. Where they end.
@@ -177,27 +169,30 @@ impl Ranked<'_, '_> {
     }
 }
 
-// The lengths of the lists. Numbers, as a plan's room is asked by them too: a struct of lengths would be made for this call alone.
+// How long a pattern's lists are.
+#[derive(Clone, Copy)]
+pub struct Room {
+    pub nodes: usize,
+    pub pointers: usize,
+    pub columns: usize,
+}
+
 #[tactic(auto, using(base::proofs::Checks::checks), unfolding(crate::specs::Steps::room_for))]
-pub fn check_room(
-    members: usize,
-    kept: usize,
-    nodes: usize,
-    pointers: usize,
-    columns: usize,
-) -> Result<(), Refusal>
-    ensures { result ≡ room_for members kept nodes pointers columns }
+pub fn check_room(members: usize, kept: usize, room: Room) -> Result<(), Refusal>
+    ensures { result ≡ room_for members kept room.nodes room.pointers room.columns }
 {
-    if members > nodes {
-        return Err(Refusal::ListTooShort);
-    }
-    if members >= pointers {
-        return Err(Refusal::ListTooShort);
-    }
-    if kept > columns {
+    if members > room.nodes || members >= room.pointers || kept > room.columns {
         return Err(Refusal::ListTooShort);
     }
     Ok(())
+}
+
+// Four bytes for each member, pointer and column, of which a plan has as many.
+pub fn bytes(members: usize, kept: usize) -> usize
+    requires { (members ≤ side_limit) × (kept ≤ entry_limit) }
+    ensures { result ≡ bytes_of_pattern members kept }
+{
+    4 * members + 4 * (members + 1) + 4 * kept
 }
 
 pub fn stats(n: usize, counts: RegionKept) -> AbtmLocalSubmatrixPatternStats
@@ -207,35 +202,33 @@ pub fn stats(n: usize, counts: RegionKept) -> AbtmLocalSubmatrixPatternStats
     AbtmLocalSubmatrixPatternStats {
         global_nodes: n as u32,
         local_nodes: counts.members as u32,
-        local_nnz: counts.kept as u32,
-        topology_words_visited: counts.words as u32,
-        candidate_neighbor_bits: counts.candidates as u32,
-        kept_neighbor_bits: counts.kept as u32,
+        local_nnz: counts.rows.kept as u32,
+        topology_words_visited: counts.rows.words as u32,
+        candidate_neighbor_bits: counts.rows.candidates as u32,
+        kept_neighbor_bits: counts.rows.kept as u32,
         mapping_scratch_bytes: (4 * n) as u32,
-        pattern_bytes: (4 * counts.members + 4 * (counts.members + 1) + 4 * counts.kept) as u32,
+        pattern_bytes: bytes(counts.members, counts.rows.kept) as u32,
     }
 }
 
 // The members in rising order. How many there are. No twin of `mask::inner::Mask::write_members`: over both widths each contract would speak of the
-// values of a list in the place of the list, and each caller would have to go from one to the other.
+// values of a list in the place of the list, and each caller would have to go from one to the other. `count` is what is answered: with `enumerate` it
+// would be set beside its number each time.
 pub fn write_nodes(region: Mask, nodes: &mut [u32]) -> usize
     requires { count_below region.len (in_mask region.words.now) ≤ length nodes.old }
     ensures value { result ≡ count_below region.entry.len (in_mask region.entry.words.now) }
     ensures nodes_after { nodes.new ≡ over (members_below region.entry.len (in_mask region.entry.words.now)) nodes.old }
 {
-    let mut k: usize = 0;
-    for (w, word) in region.words.iter().enumerate() {
-        let first = (w * AbtmTopologyWord::BITS) as u32;
-        for bit in Bits::of(*word) {
-            nodes[k] = first + bit;
-            k += 1;
-        }
+    let mut count: usize = 0;
+    for r in region.members() {
+        nodes[count] = r as u32;
+        count += 1;
     }
-    k
+    count
 }
 
-// How many members come before each word of the region. A word without one, as most are in a small region, is not counted. By number: what a `zip` with
-// `ranks.iter_mut()` leaves in `ranks` has no name that an answer may cite.
+// How many members come before each word of the region. A word without one, as most are in a small region, is not counted. By number: what a `zip`
+// with `ranks.iter_mut()` leaves in `ranks` has no name that an answer may cite.
 pub fn fill_ranks(region: Mask, ranks: &mut [u32])
     requires { words_needed region.len ≤ length ranks.old }
     ensures { ranks.new ≡ over (ranks_of region.entry.len (in_mask region.entry.words.now)) ranks.old }
@@ -260,7 +253,7 @@ fn write_word(first: u32, inside: u64, bits: u64, cols: &mut [u32], at: usize) -
     let mut left = bits;
     while left != 0 {
         let bit = u64::trailing_zeros(left);
-        cols[next] = first + u64::count_ones(((1u64 << bit) - 1) & inside);
+        cols[next] = first + rank(inside, bit as usize);
         next += 1;
         left = left & (left - 1);
     }

@@ -9,8 +9,9 @@ ghost use Rattle.pattern.specs.Views.{check_pattern};
 
 use base::Refusal;
 use dual_topology::AbtmDualTopology;
-use inner::Local;
+use inner::{Local, Room};
 use mask::DofMask;
+use std::ops::Add;
 
 pub mod inner;
 
@@ -26,21 +27,38 @@ pub struct AbtmLocalSubmatrixPatternStats {
     pub pattern_bytes: u32,
 }
 
-// What one row's words hold: how many there are, their set bits, and those inside the region.
-#[derive(Clone, Copy)]
+// What rows hold: how many words, their set bits, and those inside the region.
+#[derive(Clone, Copy, Default)]
 pub struct RowKept {
     pub words: usize,
     pub candidates: usize,
     pub kept: usize,
 }
 
-// What the members' rows hold, and how many members there are.
+impl Add for RowKept {
+    ghost use Rattle.pattern.specs.Steps.{together, Few};
+
+    type Output = RowKept;
+
+    ghost can_add = { λ a b. Few (together a b) };
+
+    ghost add_gives = { λ a b r. r ≡ together a b };
+
+    fn add(self, other: RowKept) -> RowKept {
+        RowKept {
+            words: self.words + other.words,
+            candidates: self.candidates + other.candidates,
+            kept: self.kept + other.kept,
+        }
+    }
+}
+
+// How many members there are, and what their rows hold. With `binding::Counts` no one generic struct: nothing is written for both, so that each
+// contract would name the type of the rows for no gain.
 #[derive(Clone, Copy)]
 pub struct RegionKept {
     pub members: usize,
-    pub words: usize,
-    pub candidates: usize,
-    pub kept: usize,
+    pub rows: RowKept,
 }
 
 impl AbtmLocalSubmatrixPatternStats {
@@ -80,13 +98,12 @@ pub fn extract_local_submatrix_pattern<'a>(
     let topology = topology.accept()?;
     let local = Local::of(topology.rows, region)?;
     let kept = local.count();
-    inner::check_room(
-        kept.members,
-        kept.kept,
-        global_nodes.len(),
-        row_ptr.len(),
-        col_idx.len(),
-    )?;
+    let room = Room {
+        nodes: global_nodes.len(),
+        pointers: row_ptr.len(),
+        columns: col_idx.len(),
+    };
+    inner::check_room(kept.members, kept.rows.kept, room)?;
     local.write(global_nodes, row_ptr, col_idx);
     Ok(inner::stats(local.region.len, kept))
 }

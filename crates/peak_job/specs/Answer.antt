@@ -1,4 +1,4 @@
--- The job program of document 01: the checks of a job, and the text that answers it.
+-- The job program: the checks of a job, and the text that answers it.
 use Rattle.std.specs.Prelude.{Bool, ◌&&◌, List, ℕ, leb, Float, length, replicate}
 use Rattle.base.specs.Checks.{Check}
 use Rattle.base.specs.declared.Refusal.TheVariants.{OverLimit, OutOfRange, MalformedJob}

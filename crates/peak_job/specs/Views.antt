@@ -1,4 +1,4 @@
--- What document 01 says of a job's matrix, layout and seeds, as they are lent.
+-- A job's matrix, layout and seeds as they are lent: the region's lines, and the room that they have.
 use Rattle.std.specs.Prelude.{◌≡◌, Ok, List, ℕ, ◌≤◌, length}
 use Rattle.csr32.specs.declared.Csr32Matrix.{Csr32Matrix}
 use Rattle.mask.specs.declared.DofMask.{DofMask}

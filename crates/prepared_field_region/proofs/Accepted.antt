@@ -50,7 +50,7 @@ as-lent m l d i e f =
 
 -- the room of a plan with as many members, pairs and sources as there can be
 pub plan-room : (n entries nodes pointers columns source_pointers sources : ℕ)
-    → plan_room_for (record { members = n; pairs = entries; sources = entries }) nodes pointers columns source_pointers sources ≡ local_room n entries nodes pointers columns source_pointers sources
+    → plan_room_for (record { members = n; rows = record { pairs = entries; sources = entries } }) nodes pointers columns source_pointers sources ≡ local_room n entries nodes pointers columns source_pointers sources
 unfolding plan_room_for room_for local_room
 plan-room n entries nodes pointers columns source_pointers sources =
     then-assoc (must (leb n nodes) ListTooShort) _ _ ∙ ap (λ (x : Check). must (leb n nodes) ListTooShort then x) (then-assoc _ _ _)

@@ -1,5 +1,5 @@
--- A gather after a prepared region: the parts of its two lists that the answer's counts give are the plan's own pointers and sources, so that gather's
--- laws speak of them, and new values of the same structure are refused for themselves alone. Assumes nothing.
+-- A gather after a prepared region: the parts of its two lists that the answer's counts give are the plan's own pointers and sources, so that
+-- gather's laws speak of them, and new values of the same structure are refused for themselves alone. Assumes nothing.
 use mathlib.Core.Path.{◌≡◌, refl, sym, ap, ap₂, ◌∙◌}
 use Rattle.std.specs.Prelude.{Ok}
 use Rattle.base.specs.Checks.{Check}

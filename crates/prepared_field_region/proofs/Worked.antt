@@ -1,5 +1,5 @@
--- Document 01's job, the entries (0,1), (1,2) of side 3 in blocks of one node, prepared from seed 0 by one hop, and one small case of each refusal, by
--- computing the definitions that the contracts cite. Assumes nothing.
+-- Document 01's job, the entries (0,1), (1,2) of side 3 in blocks of one node, prepared from seed 0 by one hop, and one small case of each refusal,
+-- by computing the definitions that the contracts cite. Assumes nothing.
 use mathlib.Core.Path.{◌≡◌, refl}
 use Rattle.std.specs.Prelude.{Result, Ok, Err}
 use Rattle.base.specs.Checks.{Check}

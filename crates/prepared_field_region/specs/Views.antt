@@ -1,4 +1,4 @@
--- What document 01 says of a matrix, a layout and seeds that are lent.
+-- The checks of a matrix, a layout and seeds that are lent, and what is prepared of them.
 use Rattle.std.specs.Prelude.{Bool, List, ℕ, length}
 use Rattle.base.specs.Checks.{Check}
 use Rattle.csr32.specs.declared.Csr32Matrix.{Csr32Matrix}
@@ -45,3 +45,16 @@ prepared m l s h = prepared_of m.nrows m.ncols m.row_ptr.now m.col_idx.now l.blo
 -- the three as they were accepted, with a mask of the nodes
 abbrev pub AcceptedFrom : Csr32Matrix → FieldAwareDofLayout → DofMask → Inputs → Type 0
 AcceptedFrom m l s i = AcceptedMatrix m i.matrix × AcceptedLayout l i.layout × AcceptedMask s i.seeds
+
+-- the same of the three as they were accepted
+abbrev pub own_network : Inputs → Network
+own_network i = network_of i.matrix.row_ptr.now i.matrix.col_idx.now i.layout.components.now
+
+abbrev pub own_grown : Inputs → ℕ → ℕ → Bool
+own_grown i h = region_of i.matrix.row_ptr.now i.matrix.col_idx.now i.layout.components.now i.seeds.words.now h
+
+abbrev pub own_lists : Inputs → ℕ → List (List ℕ)
+own_lists i h = lists_of i.matrix.nrows (own_grown i h) i.matrix.row_ptr.now i.matrix.col_idx.now
+
+abbrev pub own_prepared : Inputs → ℕ → PreparedFieldAwareLocalRegion
+own_prepared i h = prepared_of i.matrix.nrows i.matrix.ncols i.matrix.row_ptr.now i.matrix.col_idx.now i.layout.components.now i.seeds.words.now h

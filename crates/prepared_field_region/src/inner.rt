@@ -10,19 +10,26 @@ ghost use Rattle.side.specs.Side.{flip, side_ptr, side_words, side_masks};
 ghost use Rattle.graph.specs.Network.{region_words, frontier_words};
 ghost use Rattle.pattern.specs.Pattern.{pattern_ptr, pattern_columns};
 ghost use Rattle.gather.specs.Plan.{plan_sources, plan_ptr};
-ghost use Rattle.cutting.specs.Cut.{network_of, region_of, lists_of};
 ghost use Rattle.cutting.specs.Steps.{LocalFits, MasksFit};
-ghost use Rattle.prepared_field_region.specs.Prepared.{prepare_room, prepared_of};
+ghost use Rattle.prepared_field_region.specs.Prepared.{prepare_room};
+ghost use Rattle.prepared_field_region.specs.Steps.{BuildingFits, BuiltLists};
 
 use crate::PreparedFieldAwareLocalRegion;
 use base::Refusal;
-use binding::Counts;
+use binding::{Counts, RowCounts};
 use csr32::Csr32Matrix;
 use csr32::inner::Matrix;
+use cutting::inner::Prepared;
 use dof_layout::FieldAwareDofLayout;
 use dof_layout::inner::Layout;
+use dual_topology::TopologyCounts;
+use dual_topology::inner::Topology;
+use field_region::inner::FieldGraph;
+use growth::inner::Graph;
 use mask::DofMask;
 use mask::inner::Mask;
+use numeric_plan::inner::PlanRoom;
+use side::inner::Side;
 
 // A square matrix, a layout of its nodes and seeds among them that were accepted.
 #[derive(Clone, Copy)]
@@ -36,7 +43,7 @@ pub struct Inputs<'a> {
 }
 
 impl<'a> Inputs<'a> {
-    ghost use Rattle.prepared_field_region.specs.Views.{check_lent, AcceptedFrom};
+    ghost use Rattle.prepared_field_region.specs.Views.{check_lent, AcceptedFrom, own_network, own_grown, own_lists, own_prepared};
 
     // The matrix, the layout against it, the mask.
     pub fn of(
@@ -56,9 +63,136 @@ impl<'a> Inputs<'a> {
             seeds,
         })
     }
+
+    // The graph of the matrix's pairs, built at the front of these lists, under the layout. That its topology holds these pairs is said by the
+    // invariant of the struct that it answers.
+    fn built(
+        self,
+        counts: TopologyCounts,
+        row_word_ptr: &'a [u32],
+        row_word_indices: &'a [u32],
+        row_masks: &'a [u64],
+        column_word_ptr: &'a [u32],
+        column_word_indices: &'a [u32],
+        column_masks: &'a [u64],
+    ) -> Prepared<'a>
+        requires { BuiltLists self.matrix.nrows self.matrix.ncols (entries self.matrix) counts row_word_ptr.now row_word_indices.now row_masks.now column_word_ptr.now column_word_indices.now column_masks.now }
+        ensures { (result.fields.graph.n ≡ self.entry.matrix.nrows) × (result.fields.layout ≡ self.entry.layout) × (result.matrix ≡ self.entry.matrix) }
+    {
+        let n = self.matrix.nrows;
+        let row_words = counts.row_words as usize;
+        let column_words = counts.column_words as usize;
+        let rows = Side {
+            nrows: n,
+            ncols: n,
+            row_word_ptr: &row_word_ptr[..n + 1],
+            word_indices: &row_word_indices[..row_words],
+            masks: &row_masks[..row_words],
+        };
+        let columns = Side {
+            nrows: n,
+            ncols: n,
+            row_word_ptr: &column_word_ptr[..self.matrix.ncols + 1],
+            word_indices: &column_word_indices[..column_words],
+            masks: &column_masks[..column_words],
+        };
+        let topology = Topology { rows, columns };
+        let fields = FieldGraph {
+            graph: Graph { n, topology },
+            layout: self.layout,
+        };
+        Prepared {
+            fields,
+            matrix: self.matrix,
+        }
+    }
+
+    // All steps, on lists that reach their needed lengths.
+    pub fn prepare(
+        self,
+        hops: u64,
+        row_word_ptr: &mut [u32],
+        row_word_indices: &mut [u32],
+        row_masks: &mut [u64],
+        column_word_ptr: &mut [u32],
+        column_word_indices: &mut [u32],
+        column_masks: &mut [u64],
+        starts: &mut [u32],
+        order: &mut [u32],
+        region: &mut [u64],
+        frontier: &mut [u64],
+        scratch: &mut [u64],
+        global_nodes: &mut [u32],
+        local_row_ptr: &mut [u32],
+        local_col_idx: &mut [u32],
+        source_ptr: &mut [u32],
+        source_indices: &mut [u32],
+    ) -> PreparedFieldAwareLocalRegion
+        requires building { BuildingFits self.matrix.nrows self.matrix.ncols (length self.matrix.col_idx.now) row_word_ptr.old row_word_indices.old row_masks.old column_word_ptr.old column_word_indices.old column_masks.old starts.old order.old }
+        requires room { MasksFit self.matrix.nrows region.old frontier.old scratch.old × LocalFits self.matrix.nrows (length self.matrix.col_idx.now) global_nodes.old local_row_ptr.old local_col_idx.old source_ptr.old source_indices.old }
+        ensures value { result ≡ own_prepared self.entry hops }
+        ensures row_pointers { row_word_ptr.new ≡ over (side_ptr self.entry.matrix.nrows self.entry.matrix.ncols (entries self.entry.matrix)) row_word_ptr.old }
+        ensures row_words { row_word_indices.new ≡ over_with_zeros (side_words self.entry.matrix.nrows self.entry.matrix.ncols (entries self.entry.matrix)) (length self.entry.matrix.col_idx.now) row_word_indices.old }
+        ensures row_masked { row_masks.new ≡ over_with_zeros (side_masks self.entry.matrix.nrows self.entry.matrix.ncols (entries self.entry.matrix)) (length self.entry.matrix.col_idx.now) row_masks.old }
+        ensures column_pointers { column_word_ptr.new ≡ over (side_ptr self.entry.matrix.ncols self.entry.matrix.nrows (flip (entries self.entry.matrix))) column_word_ptr.old }
+        ensures column_words { column_word_indices.new ≡ over_with_zeros (side_words self.entry.matrix.ncols self.entry.matrix.nrows (flip (entries self.entry.matrix))) (length self.entry.matrix.col_idx.now) column_word_indices.old }
+        ensures column_masked { column_masks.new ≡ over_with_zeros (side_masks self.entry.matrix.ncols self.entry.matrix.nrows (flip (entries self.entry.matrix))) (length self.entry.matrix.col_idx.now) column_masks.old }
+        ensures scratch_starts { starts.new ≡ over (replicate (self.entry.matrix.ncols + 1) 0) starts.old }
+        ensures scratch_order { order.new ≡ over (replicate (length self.entry.matrix.col_idx.now) 0) order.old }
+        ensures inside { region.new ≡ over (region_words (own_network self.entry) self.entry.seeds.words.now hops) region.old }
+        ensures edge { frontier.new ≡ over (frontier_words (own_network self.entry) self.entry.seeds.words.now hops) frontier.old }
+        ensures spent { scratch.new ≡ over (replicate (words_needed (total_of self.entry.layout.components.now)) 0) scratch.old }
+        ensures members { global_nodes.new ≡ over_with_zeros (members_below self.entry.matrix.nrows (own_grown self.entry hops)) self.entry.matrix.nrows global_nodes.old }
+        ensures pointers { local_row_ptr.new ≡ over_with_zeros (pattern_ptr self.entry.matrix.nrows (own_grown self.entry hops) (entries self.entry.matrix)) (self.entry.matrix.nrows + 1) local_row_ptr.old }
+        ensures columns { local_col_idx.new ≡ over_with_zeros (pattern_columns self.entry.matrix.nrows (own_grown self.entry hops) (entries self.entry.matrix)) (length self.entry.matrix.col_idx.now) local_col_idx.old }
+        ensures source_pointers { source_ptr.new ≡ over_with_zeros (plan_ptr (own_lists self.entry hops)) ((length self.entry.matrix.col_idx.now) + 1) source_ptr.old }
+        ensures sources { source_indices.new ≡ over_with_zeros (plan_sources (own_lists self.entry hops)) (length self.entry.matrix.col_idx.now) source_indices.old }
+    {
+        let counts = dual_topology::inner::build(
+            self.matrix,
+            row_word_ptr,
+            row_word_indices,
+            row_masks,
+            column_word_ptr,
+            column_word_indices,
+            column_masks,
+            starts,
+            order,
+        );
+        let topology = dual_topology::inner::stats(self.matrix.nrows, self.matrix.ncols, counts);
+        let prepared = self.built(
+            counts,
+            row_word_ptr,
+            row_word_indices,
+            row_masks,
+            column_word_ptr,
+            column_word_indices,
+            column_masks,
+        );
+        let whole = prepared.cut(
+            self.seeds,
+            hops,
+            region,
+            frontier,
+            scratch,
+            global_nodes,
+            local_row_ptr,
+            local_col_idx,
+            source_ptr,
+            source_indices,
+        );
+        PreparedFieldAwareLocalRegion {
+            counts,
+            topology,
+            growth: whole.growth,
+            pattern: whole.local.pattern,
+            numeric_plan: whole.local.numeric_plan,
+        }
+    }
 }
 
-// The lengths of all lists: one call, so that `prepare_region` hands on one refusal with its seventeen equations, and not three.
+// The lengths of all lists: one call, so that `prepare_region` hands on one refusal with its seventeen equations, and not three. Each part takes
+// what its crate's `check_room` asks for: lists or lengths.
 pub fn check_room(
     nrows: usize,
     ncols: usize,
@@ -74,14 +208,10 @@ pub fn check_room(
     region: usize,
     frontier: usize,
     scratch: usize,
-    nodes: usize,
-    pointers: usize,
-    columns: usize,
-    source_pointers: usize,
-    sources: usize,
+    room: PlanRoom,
 ) -> Result<(), Refusal>
     requires { nrows ≤ side_limit }
-    ensures { result ≡ prepare_room nrows ncols entries (length row_word_ptr.now) (length row_word_indices.now) (length row_masks.now) (length column_word_ptr.now) (length column_word_indices.now) (length column_masks.now) (length starts.now) (length order.now) region frontier scratch nodes pointers columns source_pointers sources }
+    ensures { result ≡ prepare_room nrows ncols entries (length row_word_ptr.now) (length row_word_indices.now) (length row_masks.now) (length column_word_ptr.now) (length column_word_indices.now) (length column_masks.now) (length starts.now) (length order.now) region frontier scratch room.pattern.nodes room.pattern.pointers room.pattern.columns room.source_pointers room.sources }
 {
     dual_topology::inner::check_room(
         nrows,
@@ -100,96 +230,10 @@ pub fn check_room(
     // Room for as many members, pairs and sources as there can be.
     let most = Counts {
         members: nrows,
-        pairs: entries,
-        sources: entries,
+        rows: RowCounts {
+            pairs: entries,
+            sources: entries,
+        },
     };
-    numeric_plan::inner::check_room(most, nodes, pointers, columns, source_pointers, sources)
-}
-
-// All steps, on lists that reach their needed lengths.
-pub fn prepare<'a>(
-    inputs: Inputs<'a>,
-    hops: u64,
-    row_word_ptr: &mut [u32],
-    row_word_indices: &mut [u32],
-    row_masks: &mut [u64],
-    column_word_ptr: &mut [u32],
-    column_word_indices: &mut [u32],
-    column_masks: &mut [u64],
-    starts: &mut [u32],
-    order: &mut [u32],
-    region: &mut [u64],
-    frontier: &mut [u64],
-    scratch: &mut [u64],
-    global_nodes: &mut [u32],
-    local_row_ptr: &mut [u32],
-    local_col_idx: &mut [u32],
-    source_ptr: &mut [u32],
-    source_indices: &mut [u32],
-) -> PreparedFieldAwareLocalRegion
-    requires building { (inputs.matrix.nrows < length row_word_ptr.old) × (length inputs.matrix.col_idx.now ≤ length row_word_indices.old) × (length inputs.matrix.col_idx.now ≤ length row_masks.old) × (inputs.matrix.ncols < length column_word_ptr.old) × (length inputs.matrix.col_idx.now ≤ length column_word_indices.old) × (length inputs.matrix.col_idx.now ≤ length column_masks.old) × (inputs.matrix.ncols < length starts.old) × (length inputs.matrix.col_idx.now ≤ length order.old) }
-    requires room { MasksFit inputs.matrix.nrows region.old frontier.old scratch.old × LocalFits inputs.matrix.nrows (length inputs.matrix.col_idx.now) global_nodes.old local_row_ptr.old local_col_idx.old source_ptr.old source_indices.old }
-    ensures value { result ≡ prepared_of inputs.entry.matrix.nrows inputs.entry.matrix.ncols inputs.entry.matrix.row_ptr.now inputs.entry.matrix.col_idx.now inputs.entry.layout.components.now inputs.entry.seeds.words.now hops }
-    ensures row_pointers { row_word_ptr.new ≡ over (side_ptr inputs.entry.matrix.nrows inputs.entry.matrix.ncols (entries inputs.entry.matrix)) row_word_ptr.old }
-    ensures row_words { row_word_indices.new ≡ over_with_zeros (side_words inputs.entry.matrix.nrows inputs.entry.matrix.ncols (entries inputs.entry.matrix)) (length inputs.entry.matrix.col_idx.now) row_word_indices.old }
-    ensures row_masked { row_masks.new ≡ over_with_zeros (side_masks inputs.entry.matrix.nrows inputs.entry.matrix.ncols (entries inputs.entry.matrix)) (length inputs.entry.matrix.col_idx.now) row_masks.old }
-    ensures column_pointers { column_word_ptr.new ≡ over (side_ptr inputs.entry.matrix.ncols inputs.entry.matrix.nrows (flip (entries inputs.entry.matrix))) column_word_ptr.old }
-    ensures column_words { column_word_indices.new ≡ over_with_zeros (side_words inputs.entry.matrix.ncols inputs.entry.matrix.nrows (flip (entries inputs.entry.matrix))) (length inputs.entry.matrix.col_idx.now) column_word_indices.old }
-    ensures column_masked { column_masks.new ≡ over_with_zeros (side_masks inputs.entry.matrix.ncols inputs.entry.matrix.nrows (flip (entries inputs.entry.matrix))) (length inputs.entry.matrix.col_idx.now) column_masks.old }
-    ensures scratch_starts { starts.new ≡ over (replicate (inputs.entry.matrix.ncols + 1) 0) starts.old }
-    ensures scratch_order { order.new ≡ over (replicate (length inputs.entry.matrix.col_idx.now) 0) order.old }
-    ensures inside { region.new ≡ over (region_words (network_of inputs.entry.matrix.row_ptr.now inputs.entry.matrix.col_idx.now inputs.entry.layout.components.now) inputs.entry.seeds.words.now hops) region.old }
-    ensures edge { frontier.new ≡ over (frontier_words (network_of inputs.entry.matrix.row_ptr.now inputs.entry.matrix.col_idx.now inputs.entry.layout.components.now) inputs.entry.seeds.words.now hops) frontier.old }
-    ensures spent { scratch.new ≡ over (replicate (words_needed (total_of inputs.entry.layout.components.now)) 0) scratch.old }
-    ensures members { global_nodes.new ≡ over_with_zeros (members_below inputs.entry.matrix.nrows (region_of inputs.entry.matrix.row_ptr.now inputs.entry.matrix.col_idx.now inputs.entry.layout.components.now inputs.entry.seeds.words.now hops)) inputs.entry.matrix.nrows global_nodes.old }
-    ensures pointers { local_row_ptr.new ≡ over_with_zeros (pattern_ptr inputs.entry.matrix.nrows (region_of inputs.entry.matrix.row_ptr.now inputs.entry.matrix.col_idx.now inputs.entry.layout.components.now inputs.entry.seeds.words.now hops) (entries inputs.entry.matrix)) (inputs.entry.matrix.nrows + 1) local_row_ptr.old }
-    ensures columns { local_col_idx.new ≡ over_with_zeros (pattern_columns inputs.entry.matrix.nrows (region_of inputs.entry.matrix.row_ptr.now inputs.entry.matrix.col_idx.now inputs.entry.layout.components.now inputs.entry.seeds.words.now hops) (entries inputs.entry.matrix)) (length inputs.entry.matrix.col_idx.now) local_col_idx.old }
-    ensures source_pointers { source_ptr.new ≡ over_with_zeros (plan_ptr (lists_of inputs.entry.matrix.nrows (region_of inputs.entry.matrix.row_ptr.now inputs.entry.matrix.col_idx.now inputs.entry.layout.components.now inputs.entry.seeds.words.now hops) inputs.entry.matrix.row_ptr.now inputs.entry.matrix.col_idx.now)) ((length inputs.entry.matrix.col_idx.now) + 1) source_ptr.old }
-    ensures sources { source_indices.new ≡ over_with_zeros (plan_sources (lists_of inputs.entry.matrix.nrows (region_of inputs.entry.matrix.row_ptr.now inputs.entry.matrix.col_idx.now inputs.entry.layout.components.now inputs.entry.seeds.words.now hops) inputs.entry.matrix.row_ptr.now inputs.entry.matrix.col_idx.now)) (length inputs.entry.matrix.col_idx.now) source_indices.old }
-{
-    let matrix = inputs.matrix;
-    let counts = dual_topology::inner::build(
-        matrix,
-        row_word_ptr,
-        row_word_indices,
-        row_masks,
-        column_word_ptr,
-        column_word_indices,
-        column_masks,
-        starts,
-        order,
-    );
-    let n = matrix.nrows;
-    let topology = dual_topology::inner::stats(n, matrix.ncols, counts);
-    let row_pointers = n + 1;
-    let column_pointers = matrix.ncols + 1;
-    let row_words = counts.row_words as usize;
-    let column_words = counts.column_words as usize;
-    let whole = cutting::inner::cut(
-        matrix,
-        inputs.layout,
-        &row_word_ptr[..row_pointers],
-        &row_word_indices[..row_words],
-        &row_masks[..row_words],
-        &column_word_ptr[..column_pointers],
-        &column_word_indices[..column_words],
-        &column_masks[..column_words],
-        inputs.seeds,
-        hops,
-        region,
-        frontier,
-        scratch,
-        global_nodes,
-        local_row_ptr,
-        local_col_idx,
-        source_ptr,
-        source_indices,
-    );
-    PreparedFieldAwareLocalRegion {
-        counts,
-        topology,
-        growth: whole.growth,
-        pattern: whole.local.pattern,
-        numeric_plan: whole.local.numeric_plan,
-    }
+    numeric_plan::inner::check_room(most, room)
 }

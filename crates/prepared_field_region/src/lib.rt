@@ -21,7 +21,9 @@ use field_region::FieldAwareRegionStats;
 use inner::Inputs;
 use mask::DofMask;
 use numeric_plan::AbtmLocalNumericPlanStats;
+use numeric_plan::inner::PlanRoom;
 use pattern::AbtmLocalSubmatrixPatternStats;
+use pattern::inner::Room;
 
 pub mod inner;
 
@@ -62,9 +64,11 @@ impl PreparedFieldAwareLocalRegion {
     }
 }
 
-// The topology's eight lists are lent as to `from_csr32`, the three masks as to a growth; the last five take side members, side + 1 pointers, a column
-// and a source for each entry, and a source pointer for each entry and one. The lists that are written are handed in one by one, here and in `inner`,
-// each with its equation: in a struct behind `&mut` each contract would say besides that the references stay.
+// The topology's eight lists are lent as to `from_csr32`, the three masks as to a growth; the last five take side members, side + 1 pointers, a
+// column and a source for each entry, and a source pointer for each entry and one. The lists that are written are handed in one by one, here and in
+// `inner`, each with its equation: in a struct behind `&mut` each contract would say besides that the references stay. So each of the two calls
+// hands on its lines, and each clause names the check with all lists: told by `result` in the place of the check, each caller would have to go back
+// from the result to the check.
 pub fn prepare_region<'a>(
     matrix: Csr32Matrix<'a>,
     layout: FieldAwareDofLayout<'a>,
@@ -107,6 +111,15 @@ pub fn prepare_region<'a>(
 {
     let inputs = Inputs::of(matrix, layout, seeds)?;
     let matrix = inputs.matrix;
+    let room = PlanRoom {
+        pattern: Room {
+            nodes: global_nodes.len(),
+            pointers: local_row_ptr.len(),
+            columns: local_col_idx.len(),
+        },
+        source_pointers: source_ptr.len(),
+        sources: source_indices.len(),
+    };
     inner::check_room(
         matrix.nrows,
         matrix.ncols,
@@ -122,14 +135,9 @@ pub fn prepare_region<'a>(
         region.len(),
         frontier.len(),
         scratch.len(),
-        global_nodes.len(),
-        local_row_ptr.len(),
-        local_col_idx.len(),
-        source_ptr.len(),
-        source_indices.len(),
+        room,
     )?;
-    Ok(inner::prepare(
-        inputs,
+    Ok(inputs.prepare(
         hops,
         row_word_ptr,
         row_word_indices,

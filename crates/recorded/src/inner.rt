@@ -1,6 +1,4 @@
 // An answer's numbers, in the order of the fields of its C record, each of 8 bytes; and what several calls take of a record.
-#![tactic(auto)]
-
 ghost use Rattle.std.specs.Prelude.{◌≡◌, ℕ, ◌+◌, ◌*◌, ◌%◌, ◌<◌, ◌≤◌, List as List·List, [], ◌∷◌, from_bits, to_bits, length};
 ghost use Rattle.std.specs.Float.{binary64};
 ghost use Rattle.base.specs.Lists.{placed};
@@ -306,6 +304,38 @@ impl<const P: usize> Side<P> {
             ptr: List::read(call, counts, ptr),
             words: List::read(call, counts + 8, words),
             masks: List::read(call, counts + 16, words + 128),
+        }
+    }
+}
+
+// The rows and the columns of a topology, or two sides that a call takes, with their numbers.
+#[derive(Drop)]
+pub struct Sides<const P: usize> {
+    pub row_shape: Shape,
+    pub column_shape: Shape,
+    pub rows: Side<16>,
+    pub columns: Side<P>,
+}
+
+impl<const P: usize> Sides<P> {
+    // The sides whose numbers stand from `numbers` on, their lengths from `counts` on, and their lists one behind the other from `at` on.
+    pub fn read(call: &[u8], numbers: usize, counts: usize, at: usize) -> Sides<P>
+        requires fits { P < 1048576 }
+        requires stand { (numbers + 48 ≤ length call.now) × (counts + 48 ≤ length call.now) × (at + 640 + 8 * P ≤ length call.now) }
+        ensures row_shape { result.row_shape ≡ record { nrows = number_read call.now numbers; ncols = number_read call.now (numbers + 8); pairs = number_read call.now (numbers + 16) } }
+        ensures column_shape { result.column_shape ≡ record { nrows = number_read call.now (numbers + 24); ncols = number_read call.now (numbers + 24 + 8); pairs = number_read call.now (numbers + 24 + 16) } }
+        ensures row_ptr { ListAt (λ n. n % 4294967296) 16 call.now counts at result.rows.ptr.room result.rows.ptr.count }
+        ensures row_words { ListAt (λ n. n % 4294967296) 16 call.now (counts + 8) (at + 128) result.rows.words.room result.rows.words.count }
+        ensures row_masks { ListAt (λ n. n) 16 call.now (counts + 16) (at + 128 + 128) result.rows.masks.room result.rows.masks.count }
+        ensures column_ptr { ListAt (λ n. n % 4294967296) P call.now (counts + 24) (at + 384) result.columns.ptr.room result.columns.ptr.count }
+        ensures column_words { ListAt (λ n. n % 4294967296) 16 call.now (counts + 24 + 8) (at + 384 + 8 * P) result.columns.words.room result.columns.words.count }
+        ensures column_masks { ListAt (λ n. n) 16 call.now (counts + 24 + 16) (at + 384 + 8 * P + 128) result.columns.masks.room result.columns.masks.count }
+    {
+        Sides {
+            row_shape: Shape::read(call, numbers),
+            column_shape: Shape::read(call, numbers + 24),
+            rows: Side::read(call, counts, at, at + 128),
+            columns: Side::read(call, counts + 24, at + 384, at + 384 + 8 * P),
         }
     }
 }

@@ -1,6 +1,6 @@
 // Numbers and lists in a record of bytes, little-endian, 8 bytes each. Where each stands is the record's format (oracle/README.md): a place is
 // handed in.
-ghost use Rattle.std.specs.Prelude.{◌≡◌, ℕ, ◌+◌, ◌*◌, ◌%◌, ◌<◌, ◌≤◌, from_bits, to_bits, map, min, length, take, get_or, [], ◌∷◌};
+ghost use Rattle.std.specs.Prelude.{◌≡◌, ℕ, ◌+◌, ◌*◌, ◌%◌, ◌<◌, ◌≤◌, from_bits, to_bits, map, min, length, take, [], ◌∷◌};
 ghost use Rattle.std.specs.Float.{binary64};
 ghost use Rattle.base.specs.Lists.{placed};
 ghost use Rattle.records.specs.Bytes.{number_at, list_found_at, bytes_of};
@@ -96,8 +96,8 @@ pub fn count_at(call: &[u8], at: usize, room: usize) -> usize
     number_at(call, at).min(room as u64) as usize
 }
 
-// As many as the list has room for. By places, here and in `put_list`: a number of a record is read and put at its place, and a chunk of 8 bytes would
-// have to be made an array first.
+// As many as the list has room for. By places, here and in `put_list`, and not by `as_chunks::<8>`: tried, what a `zip` of `iter_mut` with chunks
+// leaves has no name that an answer could cite, and the library does not say what a list is left with whose chunks `as_chunks_mut` lends.
 pub fn read_list<T: Element>(call: &[u8], at: usize, list: &mut [T])
     requires { at + 8 * length list.old ≤ length call.now }
     ensures { list.new ≡ list_found_at T.read (length list.old) call.now at }
@@ -154,6 +154,8 @@ impl<T: Element, const N: usize> List<T, N> {
         &self.room[..self.count]
     }
 
+    // Nothing is said of what the list becomes, as the library's `writes_back` does of a `Vec`: a replay program that lends it writes it out then,
+    // and no contract of such a program speaks of what it writes.
     pub fn as_mut_slice(&mut self) -> &mut [T]
         ensures items { result.now ≡ take self.old.count self.old.room }
         ensures upper_bound { length result.now ≤ N }

@@ -32,10 +32,10 @@ pub accepted-growth : (nrows ncols : ℕ) (ptr idx masks : List ℕ) (pairs nrow
 unfolding grow_check
 accepted-growth nrows ncols ptr idx masks pairs nrows2 ncols2 ptr2 idx2 masks2 pairs2 len seeds region frontier scratch fits fits2 fits3 e =
     let a = both-passed _ _ e in
-    let b = both-passed _ _ a.1 in
-    let d = both-passed _ _ b.1 in
-    let t = accepted-topology nrows ncols ptr idx masks pairs nrows2 ncols2 ptr2 idx2 masks2 pairs2 fits fits2 a.0 in
-    let square : nrows ≡ ncols = eqb-true _ _ (passed _ _ b.0) in
+    let b = both-passed _ _ a.0 in
+    let d = both-passed _ _ a.1 in
+    let t = accepted-topology nrows ncols ptr idx masks pairs nrows2 ncols2 ptr2 idx2 masks2 pairs2 fits fits2 b.0 in
+    let square : nrows ≡ ncols = eqb-true _ _ (passed _ _ b.1) in
     let room = masks-fit nrows (length region) (length frontier) (length scratch) d.1 in
     record {
       topology = subst (λ (n : ℕ). IsTopology nrows n ptr idx masks ptr2 idx2 masks2) (sym square) t.topology;

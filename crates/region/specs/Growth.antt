@@ -1,12 +1,12 @@
 -- grow_undirected_region: the topology, 10, the mask, 25; the statistics. What its lists hold is in growth's specs/Lent.
-use Rattle.std.specs.Prelude.{List, ℕ, ◌+◌, ◌-◌, ◌^◌, min, eqb, length}
+use Rattle.std.specs.Prelude.{List, ℕ, ◌+◌, ◌-◌, ◌^◌, min, length}
 use Rattle.std.specs.Prelude.{Result}
 use Rattle.base.specs.Checks.{Check, answer}
 use Rattle.base.specs.declared.Refusal.{Refusal}
-use Rattle.base.specs.declared.Refusal.TheVariants.{NotSquare}
-use Rattle.base.specs.Checks.{must, ◌then◌}
+use Rattle.base.specs.Checks.{◌then◌}
 use Rattle.base.specs.Sets.{count_below}
 use Rattle.mask.specs.Mask.{in_mask, length_check}
+use Rattle.dual_topology.specs.Check.{square_topology}
 use Rattle.graph.specs.Network.{Network, in_region, visited, hops_made}
 use Rattle.growth.specs.Visits.{visits_of}
 use Rattle.growth.specs.Lent.{masks_room}
@@ -14,8 +14,7 @@ use Rattle.region.specs.declared.AbtmRegionGrowthStats.{AbtmRegionGrowthStats}
 
 unfoldable pub grow_check : Check → ℕ → ℕ → ℕ → List ℕ → List ℕ → List ℕ → List ℕ → Check
 grow_check topology nrows ncols len seeds region frontier scratch =
-    topology
-    then must (eqb nrows ncols) NotSquare
+    square_topology topology nrows ncols
     then length_check nrows len seeds
     then masks_room nrows (length region) (length frontier) (length scratch)
 

@@ -86,6 +86,7 @@ fn grow(
 
 // The nodes within `hops` links of the mask's nodes, and those at exactly so many. The lists take a mask each; `scratch` is left zero. They are
 // written, each with an equation of its own, and so handed in one by one.
+#[tactic(auto, using(base::proofs::Checks::checks), unfolding(crate::specs::Growth::grow_check))]
 pub fn grow_undirected_region(
     topology: AbtmDualTopology,
     mask: DofMask,

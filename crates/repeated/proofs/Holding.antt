@@ -1,6 +1,6 @@
 -- Lists that hold a plan: they are long enough for it, and stay as they are where it is written again. Assumes nothing.
 use mathlib.Core.Path.{◌≡◌, refl, sym, ap, subst}
-use Rattle.std.specs.Prelude.{Ok, Err}
+use Rattle.std.specs.Prelude.{Ok, Err, IsOk}
 use Rattle.base.specs.Checks.{Check}
 use mathlib.Core.Bool.{Bool}
 use mathlib.Core.List.{List}
@@ -11,7 +11,6 @@ use lib.Ieee.{Float}
 use lib.ListN.{length, get_or, drop, length-append}
 use Rattle.base.specs.Lists.{over}
 use Rattle.base.specs.Sets.{members_below}
-use Rattle.base.specs.declared.Refusal.{Refusal}
 use Rattle.base.proofs.Checks.{pass, last-pass, both-pass, both-passed, refused-not-accepted}
 use Rattle.base.proofs.Sets.{count-members}
 use Rattle.mask.specs.Mask.{in_mask}
@@ -83,9 +82,9 @@ plan-accepted (Ok tt) n p lists stats e = (refl, cc)
 plan-accepted (Err r) n p lists stats e = let z : ◌≡◌ {A = ℕ} 0 1 = cc in absurd (omega arith)
 
 -- accepted checks refuse nothing
-pub plan-made : (check : Check) (n : ℕ) (p : ℕ → Bool) (lists : List (List ℕ)) (r : Refusal) → check ≡ Ok tt → plan_answer check n p lists ≡ Err r → ⊥
-plan-made (Ok tt) n p lists r a e = let z : ◌≡◌ {A = ℕ} 0 1 = cc in absurd (omega arith)
-plan-made (Err q) n p lists r a e = refused-not-accepted q a
+pub plan-made : (check : Check) (n : ℕ) (p : ℕ → Bool) (lists : List (List ℕ)) → check ≡ Ok tt → IsOk (plan_answer check n p lists)
+plan-made (Ok tt) _ _ _ _ = refl
+plan-made (Err q) _ _ _ a = absurd (refused-not-accepted q a)
 
 inputs-accepted : (inputs : Check) (n : ℕ) (p : ℕ → Bool) (s : ℕ → ℕ → Bool) (lists : List (List ℕ)) (nodes ptr cols source_ptr sources : List ℕ) → plan_check inputs n p s lists nodes ptr cols source_ptr sources ≡ Ok tt → inputs ≡ Ok tt
 unfolding plan_check

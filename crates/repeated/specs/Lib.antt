@@ -1,3 +1,4 @@
 pub mod Repeated
 pub mod Held
 pub mod Views
+pub mod Lent

@@ -1,30 +1,32 @@
 // For the benchmark only: a growth, a closing, a pattern, a plan or a gather made many times after one check of its inputs, so that its own time
 // can be told from the time of the checks. It leaves and answers what one call does. repeated_c exports them; no part of a station's library.
-// Its exported functions take each list for itself and answer a flat record: both are C's. Lists that are written are no struct: a clause could not
-// name what each is left with. So a loop over one call is a function for each of them: a closure would hold the lists that its call writes, and what
-// each is left with would be said of the closure. What a call has accepted is made the accepted struct by a function or a literal that checks nothing:
-// `accept` would check it a second time, and the benchmark would count that. Lists of arguments make the functions long.
+// Its exported functions take each list for itself and answer a flat record: both are C's. Lists that are written are no struct: each contract would
+// say besides that the struct's references stay. So a loop over one call is a function for each of them: a closure would hold the lists that its call
+// writes, and what each is left with would be said of the closure. Plain and field growths are no two kinds of one trait, as `Hop` and `Grower` have
+// them: its ghost members would be the network, the checks and the counts, its methods the call on lent lists and the one on accepted ones with
+// their clauses, and that is all that the functions hold. What a call has accepted is made the accepted struct by a function or a literal that checks
+// nothing: `accept` could refuse behind a call that has written its lists, so that each place would have to show that it does not, as it shows
+// here what the struct asks. A refusal is made the record by a `match`: with `?` each private function would answer a `Result<u64, Refusal>`, and
+// specs/ would say each count twice, in that and in the record. Lists of arguments make the functions and the clauses long.
 #![tactic(auto)]
 
 ghost use Rattle.std.specs.Prelude.{◌≡◌, false, ℕ, ◌^◌, ◌<◌, length, get_or};
 ghost use Rattle.mask.specs.Mask.{words_needed, mask_words};
 ghost use Rattle.dof_layout.specs.Layout.{total_of};
-ghost use Rattle.dof_layout.specs.Answers.{square_check};
-ghost use Rattle.dof_layout.specs.Views.{total};
-ghost use Rattle.side.specs.Side.{side_holds};
+ghost use Rattle.dof_layout.specs.Views.{SoundLayout, total};
 ghost use Rattle.side.specs.Check.{IsSide};
 ghost use Rattle.side.specs.Views.{pairs};
-ghost use Rattle.dual_topology.specs.Check.{topology_check, IsTopology};
-ghost use Rattle.graph.specs.Network.{plain_network, field_network, region_words, frontier_words};
+ghost use Rattle.graph.specs.Network.{plain_network, region_words, frontier_words};
 ghost use Rattle.growth.specs.Visits.{grown_by};
 ghost use Rattle.growth.specs.Lent.{region_left, frontier_left, scratch_left};
-ghost use Rattle.region.specs.Growth.{grow_check, grow_answer};
+ghost use Rattle.region.specs.Growth.{grow_answer};
 ghost use Rattle.region.specs.Views.{check_grow, plain};
-ghost use Rattle.field_region.specs.Growth.{field_grow_check, field_grow_answer, blocks_grown_by};
+ghost use Rattle.field_region.specs.Growth.{field_grow_answer, blocks_grown_by};
 ghost use Rattle.field_region.specs.Closure.{close_check, close_answer, closed_words, close_words};
 ghost use Rattle.field_region.specs.Views.{fields, blocked, check_closing, check_field_grow};
 ghost use Rattle.repeated.specs.Repeated.{hops_answer, field_hops_answer, count_answer, value_answer, refused_answer};
-ghost use Rattle.repeated.specs.Views.{Words, SideOf, GraphOf};
+ghost use Rattle.repeated.specs.Lent.{grown_of, field_grown_of};
+ghost use Rattle.repeated.specs.Views.{Words, SideOf, Square, GraphOf};
 
 use base::Refusal;
 use dof_layout::FieldAwareDofLayout;
@@ -43,7 +45,8 @@ use side::inner::Side;
 pub mod local;
 mod views;
 
-// The value: the hops completed, or the count of nodes, of pairs or of sources. hybit_matrix has a record like it, and is not below this crate.
+// The value: the hops completed, or the count of nodes, of pairs or of sources. hybit_matrix has a record like it: to have one
+// for both, a crate below both would hold it, its `From`s and what `views` has, for the benchmark's library alone.
 #[repr(C)]
 #[derive(Clone, Copy, Default)]
 pub struct Answer {
@@ -95,7 +98,7 @@ pub(crate) fn side_of<'a>(n: usize, side: AbtmTopology<'a>) -> Side<'a>
 
 // The graph of a topology that a call has accepted.
 fn graph_of<'a>(topology: AbtmDualTopology<'a>) -> Graph<'a>
-    requires { IsTopology topology.rows.nrows topology.rows.nrows topology.rows.row_word_ptr.now topology.rows.word_indices.now topology.rows.masks.now topology.columns.row_word_ptr.now topology.columns.word_indices.now topology.columns.masks.now }
+    requires { Square topology }
     ensures { GraphOf topology.entry result }
 {
     let n = topology.rows.nrows;
@@ -105,6 +108,25 @@ fn graph_of<'a>(topology: AbtmDualTopology<'a>) -> Graph<'a>
     Graph {
         n,
         topology: accepted,
+    }
+}
+
+// The same under a layout that a call has accepted.
+fn field_graph_of<'a>(
+    topology: AbtmDualTopology<'a>,
+    layout: FieldAwareDofLayout<'a>,
+) -> FieldGraph<'a>
+    requires { Square topology × SoundLayout layout × (topology.rows.nrows ≡ total layout) }
+    ensures { GraphOf topology.entry result.graph × (result.layout.components ≡ layout.entry.blocks.components) × (result.layout.offsets ≡ layout.entry.offsets) }
+{
+    let graph = graph_of(topology);
+    let blocks = Layout {
+        components: layout.blocks.components,
+        offsets: layout.offsets,
+    };
+    FieldGraph {
+        graph,
+        layout: blocks,
     }
 }
 
@@ -195,10 +217,10 @@ pub fn hybit_repeated_growth(
     frontier: &mut [u64],
     scratch: &mut [u64],
 ) -> Answer
-    ensures value { result ≡ hops_answer (grow_answer (grow_check (topology_check nrows ncols row_word_ptr.now row_word_indices.now row_masks.now structural_nnz column_nrows column_ncols column_word_ptr.now column_word_indices.now column_masks.now column_structural_nnz) nrows ncols len words.now region.old frontier.old scratch.old) (plain_network nrows (side_holds row_word_ptr.now row_word_indices.now row_masks.now)) words.now hops) }
-    ensures inside { region.new ≡ region_left (grow_check (topology_check nrows ncols row_word_ptr.now row_word_indices.now row_masks.now structural_nnz column_nrows column_ncols column_word_ptr.now column_word_indices.now column_masks.now column_structural_nnz) nrows ncols len words.now region.old frontier.old scratch.old) (plain_network nrows (side_holds row_word_ptr.now row_word_indices.now row_masks.now)) words.now hops region.old }
-    ensures edge { frontier.new ≡ frontier_left (grow_check (topology_check nrows ncols row_word_ptr.now row_word_indices.now row_masks.now structural_nnz column_nrows column_ncols column_word_ptr.now column_word_indices.now column_masks.now column_structural_nnz) nrows ncols len words.now region.old frontier.old scratch.old) (plain_network nrows (side_holds row_word_ptr.now row_word_indices.now row_masks.now)) words.now hops frontier.old }
-    ensures spent { scratch.new ≡ scratch_left (grow_check (topology_check nrows ncols row_word_ptr.now row_word_indices.now row_masks.now structural_nnz column_nrows column_ncols column_word_ptr.now column_word_indices.now column_masks.now column_structural_nnz) nrows ncols len words.now region.old frontier.old scratch.old) nrows scratch.old }
+    ensures value { result ≡ (grown_of nrows ncols row_word_ptr.now row_word_indices.now row_masks.now structural_nnz column_nrows column_ncols column_word_ptr.now column_word_indices.now column_masks.now column_structural_nnz len words.now hops region.old frontier.old scratch.old).answer }
+    ensures inside { region.new ≡ (grown_of nrows ncols row_word_ptr.now row_word_indices.now row_masks.now structural_nnz column_nrows column_ncols column_word_ptr.now column_word_indices.now column_masks.now column_structural_nnz len words.now hops region.old frontier.old scratch.old).region }
+    ensures edge { frontier.new ≡ (grown_of nrows ncols row_word_ptr.now row_word_indices.now row_masks.now structural_nnz column_nrows column_ncols column_word_ptr.now column_word_indices.now column_masks.now column_structural_nnz len words.now hops region.old frontier.old scratch.old).frontier }
+    ensures spent { scratch.new ≡ (grown_of nrows ncols row_word_ptr.now row_word_indices.now row_masks.now structural_nnz column_nrows column_ncols column_word_ptr.now column_word_indices.now column_masks.now column_structural_nnz len words.now hops region.old frontier.old scratch.old).scratch }
 {
     repeated_growth(
         views::topology(
@@ -272,20 +294,13 @@ fn repeated_field_growth<'a>(
         Ok(_) => {
             let n = topology.rows.nrows;
             let need = mask::inner::words_for(n);
-            let graph = graph_of(topology);
-            let blocks = Layout {
-                components: layout.blocks.components,
-                offsets: layout.offsets,
-            };
+            let graph = field_graph_of(topology, layout);
             let seeds = Mask {
                 len: n,
                 words: mask.words,
             };
             let grown = repeat_blocks(
-                FieldGraph {
-                    graph,
-                    layout: blocks,
-                },
+                graph,
                 seeds,
                 hops,
                 times,
@@ -326,10 +341,10 @@ pub fn hybit_repeated_field_growth(
     frontier: &mut [u64],
     scratch: &mut [u64],
 ) -> Answer
-    ensures value { result ≡ field_hops_answer (field_grow_answer (field_grow_check (topology_check nrows ncols row_word_ptr.now row_word_indices.now row_masks.now structural_nnz column_nrows column_ncols column_word_ptr.now column_word_indices.now column_masks.now column_structural_nnz) (square_check entity_kinds.now entity_ids.now field_ids.now components.now offsets.now nrows ncols) (total_of components.now) len words.now region.old frontier.old scratch.old) (field_network components.now (side_holds row_word_ptr.now row_word_indices.now row_masks.now)) words.now hops) }
-    ensures inside { region.new ≡ region_left (field_grow_check (topology_check nrows ncols row_word_ptr.now row_word_indices.now row_masks.now structural_nnz column_nrows column_ncols column_word_ptr.now column_word_indices.now column_masks.now column_structural_nnz) (square_check entity_kinds.now entity_ids.now field_ids.now components.now offsets.now nrows ncols) (total_of components.now) len words.now region.old frontier.old scratch.old) (field_network components.now (side_holds row_word_ptr.now row_word_indices.now row_masks.now)) words.now hops region.old }
-    ensures edge { frontier.new ≡ frontier_left (field_grow_check (topology_check nrows ncols row_word_ptr.now row_word_indices.now row_masks.now structural_nnz column_nrows column_ncols column_word_ptr.now column_word_indices.now column_masks.now column_structural_nnz) (square_check entity_kinds.now entity_ids.now field_ids.now components.now offsets.now nrows ncols) (total_of components.now) len words.now region.old frontier.old scratch.old) (field_network components.now (side_holds row_word_ptr.now row_word_indices.now row_masks.now)) words.now hops frontier.old }
-    ensures spent { scratch.new ≡ scratch_left (field_grow_check (topology_check nrows ncols row_word_ptr.now row_word_indices.now row_masks.now structural_nnz column_nrows column_ncols column_word_ptr.now column_word_indices.now column_masks.now column_structural_nnz) (square_check entity_kinds.now entity_ids.now field_ids.now components.now offsets.now nrows ncols) (total_of components.now) len words.now region.old frontier.old scratch.old) (total_of components.now) scratch.old }
+    ensures value { result ≡ (field_grown_of nrows ncols row_word_ptr.now row_word_indices.now row_masks.now structural_nnz column_nrows column_ncols column_word_ptr.now column_word_indices.now column_masks.now column_structural_nnz entity_kinds.now entity_ids.now field_ids.now components.now offsets.now len words.now hops region.old frontier.old scratch.old).answer }
+    ensures inside { region.new ≡ (field_grown_of nrows ncols row_word_ptr.now row_word_indices.now row_masks.now structural_nnz column_nrows column_ncols column_word_ptr.now column_word_indices.now column_masks.now column_structural_nnz entity_kinds.now entity_ids.now field_ids.now components.now offsets.now len words.now hops region.old frontier.old scratch.old).region }
+    ensures edge { frontier.new ≡ (field_grown_of nrows ncols row_word_ptr.now row_word_indices.now row_masks.now structural_nnz column_nrows column_ncols column_word_ptr.now column_word_indices.now column_masks.now column_structural_nnz entity_kinds.now entity_ids.now field_ids.now components.now offsets.now len words.now hops region.old frontier.old scratch.old).frontier }
+    ensures spent { scratch.new ≡ (field_grown_of nrows ncols row_word_ptr.now row_word_indices.now row_masks.now structural_nnz column_nrows column_ncols column_word_ptr.now column_word_indices.now column_masks.now column_structural_nnz entity_kinds.now entity_ids.now field_ids.now components.now offsets.now len words.now hops region.old frontier.old scratch.old).scratch }
 {
     repeated_field_growth(
         views::topology(

@@ -1,20 +1,18 @@
 // The pattern of a region, its plan and a gather, each made many times after one check of its inputs: it leaves and answers what one call does.
-ghost use Rattle.std.specs.Prelude.{◌≡◌, ◌-◌, ◌<◌, ◌≤◌, length};
+ghost use Rattle.std.specs.Prelude.{◌≡◌, ◌-◌, ◌≤◌, length};
 ghost use Rattle.base.specs.Lists.{over};
-ghost use Rattle.base.specs.Sets.{count_below, members_below};
 ghost use Rattle.mask.specs.Mask.{in_mask};
 ghost use Rattle.mask.specs.Views.{nodes};
-ghost use Rattle.csr32.specs.Matrix.{matrix_check, stored};
-ghost use Rattle.side.specs.Side.{side_holds};
 ghost use Rattle.side.specs.Views.{holds, pairs};
-ghost use Rattle.dual_topology.specs.Check.{topology_check};
-ghost use Rattle.pattern.specs.Pattern.{pattern_check, pattern_answer, nodes_left, ptr_left, columns_left, pattern_ptr, pattern_columns, pairs_inside};
+ghost use Rattle.pattern.specs.Pattern.{pattern_answer, nodes_left, ptr_left, columns_left};
 ghost use Rattle.pattern.specs.Views.{check_pattern};
-ghost use Rattle.numeric_plan.specs.Plan.{pair_entries, plan_inputs, plan_check, plan_answer, source_ptr_left, sources_left};
+ghost use Rattle.numeric_plan.specs.Plan.{plan_answer, source_ptr_left, sources_left};
 ghost use Rattle.numeric_plan.specs.Views.{lent_lists, check_plan};
 ghost use Rattle.gather.specs.Gather.{gather_check, gather_answer, gather_left, gathered};
 ghost use Rattle.repeated.specs.Repeated.{pairs_answer, sources_answer, count_answer};
-ghost use Rattle.repeated.specs.Views.{Words, SystemHeld, terms_inside};
+ghost use Rattle.repeated.specs.Lent.{pattern_of, plan_of};
+ghost use Rattle.repeated.specs.Held.{Binds};
+ghost use Rattle.repeated.specs.Views.{Words, PatternHeld, SystemHeld, SystemOf, terms_inside};
 
 use crate::{Answer, side_of, views};
 use binding::inner::System;
@@ -35,7 +33,7 @@ fn repeat_pattern(
     row_ptr: &mut [u32],
     col_idx: &mut [u32],
 )
-    requires { (count_below local.region.len (nodes local.region) ≤ length global_nodes.old) × (count_below local.region.len (nodes local.region) < length row_ptr.old) × (pairs_inside local.region.len (nodes local.region) (pairs local.rows) ≤ length col_idx.old) × (over (members_below local.region.len (nodes local.region)) global_nodes.old ≡ global_nodes.old) × (over (pattern_ptr local.region.len (nodes local.region) (pairs local.rows)) row_ptr.old ≡ row_ptr.old) × (over (pattern_columns local.region.len (nodes local.region) (pairs local.rows)) col_idx.old ≡ col_idx.old) }
+    requires { PatternHeld local global_nodes.old row_ptr.old col_idx.old }
     ensures members { global_nodes.new ≡ global_nodes.old }
     ensures pointers { row_ptr.new ≡ row_ptr.old }
     ensures columns { col_idx.new ≡ col_idx.old }
@@ -98,10 +96,10 @@ pub fn hybit_repeated_pattern(
     row_ptr: &mut [u32],
     col_idx: &mut [u32],
 ) -> Answer
-    ensures value { result ≡ pairs_answer (pattern_answer (pattern_check (topology_check nrows ncols row_word_ptr.now row_word_indices.now row_masks.now structural_nnz column_nrows column_ncols column_word_ptr.now column_word_indices.now column_masks.now column_structural_nnz) nrows ncols len words.now (side_holds row_word_ptr.now row_word_indices.now row_masks.now) global_nodes.old row_ptr.old col_idx.old) nrows (in_mask words.now) (side_holds row_word_ptr.now row_word_indices.now row_masks.now)) }
-    ensures members { global_nodes.new ≡ nodes_left (pattern_check (topology_check nrows ncols row_word_ptr.now row_word_indices.now row_masks.now structural_nnz column_nrows column_ncols column_word_ptr.now column_word_indices.now column_masks.now column_structural_nnz) nrows ncols len words.now (side_holds row_word_ptr.now row_word_indices.now row_masks.now) global_nodes.old row_ptr.old col_idx.old) nrows (in_mask words.now) global_nodes.old }
-    ensures pointers { row_ptr.new ≡ ptr_left (pattern_check (topology_check nrows ncols row_word_ptr.now row_word_indices.now row_masks.now structural_nnz column_nrows column_ncols column_word_ptr.now column_word_indices.now column_masks.now column_structural_nnz) nrows ncols len words.now (side_holds row_word_ptr.now row_word_indices.now row_masks.now) global_nodes.old row_ptr.old col_idx.old) nrows (in_mask words.now) (side_holds row_word_ptr.now row_word_indices.now row_masks.now) row_ptr.old }
-    ensures columns { col_idx.new ≡ columns_left (pattern_check (topology_check nrows ncols row_word_ptr.now row_word_indices.now row_masks.now structural_nnz column_nrows column_ncols column_word_ptr.now column_word_indices.now column_masks.now column_structural_nnz) nrows ncols len words.now (side_holds row_word_ptr.now row_word_indices.now row_masks.now) global_nodes.old row_ptr.old col_idx.old) nrows (in_mask words.now) (side_holds row_word_ptr.now row_word_indices.now row_masks.now) col_idx.old }
+    ensures value { result ≡ (pattern_of nrows ncols row_word_ptr.now row_word_indices.now row_masks.now structural_nnz column_nrows column_ncols column_word_ptr.now column_word_indices.now column_masks.now column_structural_nnz len words.now global_nodes.old row_ptr.old col_idx.old).answer }
+    ensures members { global_nodes.new ≡ (pattern_of nrows ncols row_word_ptr.now row_word_indices.now row_masks.now structural_nnz column_nrows column_ncols column_word_ptr.now column_word_indices.now column_masks.now column_structural_nnz len words.now global_nodes.old row_ptr.old col_idx.old).nodes }
+    ensures pointers { row_ptr.new ≡ (pattern_of nrows ncols row_word_ptr.now row_word_indices.now row_masks.now structural_nnz column_nrows column_ncols column_word_ptr.now column_word_indices.now column_masks.now column_structural_nnz len words.now global_nodes.old row_ptr.old col_idx.old).ptr }
+    ensures columns { col_idx.new ≡ (pattern_of nrows ncols row_word_ptr.now row_word_indices.now row_masks.now structural_nnz column_nrows column_ncols column_word_ptr.now column_word_indices.now column_masks.now column_structural_nnz len words.now global_nodes.old row_ptr.old col_idx.old).columns }
 {
     repeated_pattern(
         views::topology(
@@ -126,8 +124,7 @@ pub fn hybit_repeated_pattern(
     )
 }
 
-// The plan once more, on lists that hold it: they stay as they are. The count of its sources: a plan that the lists hold is not refused, and the arm
-// that answers 0 is proved never taken.
+// The plan once more, on lists that hold it: they stay as they are. The count of its sources: a plan that the lists hold is not refused.
 fn plan_again(
     system: System,
     nodes: &mut [u32],
@@ -144,10 +141,9 @@ fn plan_again(
     ensures starts { source_ptr.new ≡ source_ptr.old }
     ensures entries { sources.new ≡ sources.old }
 {
-    match numeric_plan::inner::prepare(system, nodes, local_ptr, local_cols, source_ptr, sources) {
-        Err(_) => 0,
-        Ok(s) => s.source_terms as usize,
-    }
+    numeric_plan::inner::prepare(system, nodes, local_ptr, local_cols, source_ptr, sources)
+        .unwrap()
+        .source_terms as usize
 }
 
 // The plan `times` more, on lists that hold it: they stay as they are. The count of its sources: of the last plan made, so that none is left out.
@@ -174,6 +170,34 @@ fn repeat_plan(
         terms = plan_again(system, nodes, local_ptr, local_cols, source_ptr, sources);
     }
     terms
+}
+
+// The system of a topology, a matrix and a region that a call has accepted.
+fn system_of<'a>(
+    topology: AbtmDualTopology<'a>,
+    matrix: Csr32Matrix<'a>,
+    mask: DofMask<'a>,
+) -> System<'a>
+    requires { Binds topology.rows.nrows topology.rows.row_word_ptr.now topology.rows.word_indices.now topology.rows.masks.now matrix.row_ptr.now matrix.col_idx.now mask.words.now }
+    ensures { SystemOf topology.entry matrix.entry mask.entry result }
+{
+    let n = topology.rows.nrows;
+    let rows = side_of(n, topology.rows);
+    let region = Mask {
+        len: n,
+        words: mask.words,
+    };
+    let local = Local { rows, region };
+    let accepted = Matrix {
+        nrows: n,
+        ncols: n,
+        row_ptr: matrix.row_ptr,
+        col_idx: matrix.col_idx,
+    };
+    System {
+        local,
+        matrix: accepted,
+    }
 }
 
 // A plan as lent, and `times` more with what its checks gave.
@@ -209,25 +233,8 @@ fn repeated_plan<'a>(
     ) {
         Err(r) => r.into(),
         Ok(s) => {
-            let n = topology.rows.nrows;
-            let rows = side_of(n, topology.rows);
-            let region = Mask {
-                len: n,
-                words: mask.words,
-            };
-            let local = Local { rows, region };
-            let accepted = Matrix {
-                nrows: n,
-                ncols: n,
-                row_ptr: matrix.row_ptr,
-                col_idx: matrix.col_idx,
-            };
-            let system = System {
-                local,
-                matrix: accepted,
-            };
             let terms = repeat_plan(
-                system,
+                system_of(topology, matrix, mask),
                 s.source_terms as usize,
                 times,
                 global_nodes,
@@ -269,12 +276,12 @@ pub fn hybit_repeated_plan(
     source_ptr: &mut [u32],
     source_indices: &mut [u32],
 ) -> Answer
-    ensures value { result ≡ sources_answer (plan_answer (plan_check (plan_inputs (matrix_check matrix_nrows matrix_ncols row_ptr.now col_idx.now values.now) (topology_check nrows ncols row_word_ptr.now row_word_indices.now row_masks.now structural_nnz column_nrows column_ncols column_word_ptr.now column_word_indices.now column_masks.now column_structural_nnz) matrix_nrows matrix_ncols nrows ncols len words.now (side_holds row_word_ptr.now row_word_indices.now row_masks.now) (stored row_ptr.now col_idx.now)) nrows (in_mask words.now) (side_holds row_word_ptr.now row_word_indices.now row_masks.now) (pair_entries nrows (in_mask words.now) (side_holds row_word_ptr.now row_word_indices.now row_masks.now) row_ptr.now col_idx.now) global_nodes.old local_row_ptr.old local_col_idx.old source_ptr.old source_indices.old) nrows (in_mask words.now) (pair_entries nrows (in_mask words.now) (side_holds row_word_ptr.now row_word_indices.now row_masks.now) row_ptr.now col_idx.now)) }
-    ensures members { global_nodes.new ≡ nodes_left (plan_check (plan_inputs (matrix_check matrix_nrows matrix_ncols row_ptr.now col_idx.now values.now) (topology_check nrows ncols row_word_ptr.now row_word_indices.now row_masks.now structural_nnz column_nrows column_ncols column_word_ptr.now column_word_indices.now column_masks.now column_structural_nnz) matrix_nrows matrix_ncols nrows ncols len words.now (side_holds row_word_ptr.now row_word_indices.now row_masks.now) (stored row_ptr.now col_idx.now)) nrows (in_mask words.now) (side_holds row_word_ptr.now row_word_indices.now row_masks.now) (pair_entries nrows (in_mask words.now) (side_holds row_word_ptr.now row_word_indices.now row_masks.now) row_ptr.now col_idx.now) global_nodes.old local_row_ptr.old local_col_idx.old source_ptr.old source_indices.old) nrows (in_mask words.now) global_nodes.old }
-    ensures pointers { local_row_ptr.new ≡ ptr_left (plan_check (plan_inputs (matrix_check matrix_nrows matrix_ncols row_ptr.now col_idx.now values.now) (topology_check nrows ncols row_word_ptr.now row_word_indices.now row_masks.now structural_nnz column_nrows column_ncols column_word_ptr.now column_word_indices.now column_masks.now column_structural_nnz) matrix_nrows matrix_ncols nrows ncols len words.now (side_holds row_word_ptr.now row_word_indices.now row_masks.now) (stored row_ptr.now col_idx.now)) nrows (in_mask words.now) (side_holds row_word_ptr.now row_word_indices.now row_masks.now) (pair_entries nrows (in_mask words.now) (side_holds row_word_ptr.now row_word_indices.now row_masks.now) row_ptr.now col_idx.now) global_nodes.old local_row_ptr.old local_col_idx.old source_ptr.old source_indices.old) nrows (in_mask words.now) (side_holds row_word_ptr.now row_word_indices.now row_masks.now) local_row_ptr.old }
-    ensures columns { local_col_idx.new ≡ columns_left (plan_check (plan_inputs (matrix_check matrix_nrows matrix_ncols row_ptr.now col_idx.now values.now) (topology_check nrows ncols row_word_ptr.now row_word_indices.now row_masks.now structural_nnz column_nrows column_ncols column_word_ptr.now column_word_indices.now column_masks.now column_structural_nnz) matrix_nrows matrix_ncols nrows ncols len words.now (side_holds row_word_ptr.now row_word_indices.now row_masks.now) (stored row_ptr.now col_idx.now)) nrows (in_mask words.now) (side_holds row_word_ptr.now row_word_indices.now row_masks.now) (pair_entries nrows (in_mask words.now) (side_holds row_word_ptr.now row_word_indices.now row_masks.now) row_ptr.now col_idx.now) global_nodes.old local_row_ptr.old local_col_idx.old source_ptr.old source_indices.old) nrows (in_mask words.now) (side_holds row_word_ptr.now row_word_indices.now row_masks.now) local_col_idx.old }
-    ensures starts { source_ptr.new ≡ source_ptr_left (plan_check (plan_inputs (matrix_check matrix_nrows matrix_ncols row_ptr.now col_idx.now values.now) (topology_check nrows ncols row_word_ptr.now row_word_indices.now row_masks.now structural_nnz column_nrows column_ncols column_word_ptr.now column_word_indices.now column_masks.now column_structural_nnz) matrix_nrows matrix_ncols nrows ncols len words.now (side_holds row_word_ptr.now row_word_indices.now row_masks.now) (stored row_ptr.now col_idx.now)) nrows (in_mask words.now) (side_holds row_word_ptr.now row_word_indices.now row_masks.now) (pair_entries nrows (in_mask words.now) (side_holds row_word_ptr.now row_word_indices.now row_masks.now) row_ptr.now col_idx.now) global_nodes.old local_row_ptr.old local_col_idx.old source_ptr.old source_indices.old) (pair_entries nrows (in_mask words.now) (side_holds row_word_ptr.now row_word_indices.now row_masks.now) row_ptr.now col_idx.now) source_ptr.old }
-    ensures sources { source_indices.new ≡ sources_left (plan_check (plan_inputs (matrix_check matrix_nrows matrix_ncols row_ptr.now col_idx.now values.now) (topology_check nrows ncols row_word_ptr.now row_word_indices.now row_masks.now structural_nnz column_nrows column_ncols column_word_ptr.now column_word_indices.now column_masks.now column_structural_nnz) matrix_nrows matrix_ncols nrows ncols len words.now (side_holds row_word_ptr.now row_word_indices.now row_masks.now) (stored row_ptr.now col_idx.now)) nrows (in_mask words.now) (side_holds row_word_ptr.now row_word_indices.now row_masks.now) (pair_entries nrows (in_mask words.now) (side_holds row_word_ptr.now row_word_indices.now row_masks.now) row_ptr.now col_idx.now) global_nodes.old local_row_ptr.old local_col_idx.old source_ptr.old source_indices.old) (pair_entries nrows (in_mask words.now) (side_holds row_word_ptr.now row_word_indices.now row_masks.now) row_ptr.now col_idx.now) source_indices.old }
+    ensures value { result ≡ (plan_of nrows ncols row_word_ptr.now row_word_indices.now row_masks.now structural_nnz column_nrows column_ncols column_word_ptr.now column_word_indices.now column_masks.now column_structural_nnz matrix_nrows matrix_ncols row_ptr.now col_idx.now values.now len words.now global_nodes.old local_row_ptr.old local_col_idx.old source_ptr.old source_indices.old).answer }
+    ensures members { global_nodes.new ≡ (plan_of nrows ncols row_word_ptr.now row_word_indices.now row_masks.now structural_nnz column_nrows column_ncols column_word_ptr.now column_word_indices.now column_masks.now column_structural_nnz matrix_nrows matrix_ncols row_ptr.now col_idx.now values.now len words.now global_nodes.old local_row_ptr.old local_col_idx.old source_ptr.old source_indices.old).nodes }
+    ensures pointers { local_row_ptr.new ≡ (plan_of nrows ncols row_word_ptr.now row_word_indices.now row_masks.now structural_nnz column_nrows column_ncols column_word_ptr.now column_word_indices.now column_masks.now column_structural_nnz matrix_nrows matrix_ncols row_ptr.now col_idx.now values.now len words.now global_nodes.old local_row_ptr.old local_col_idx.old source_ptr.old source_indices.old).ptr }
+    ensures columns { local_col_idx.new ≡ (plan_of nrows ncols row_word_ptr.now row_word_indices.now row_masks.now structural_nnz column_nrows column_ncols column_word_ptr.now column_word_indices.now column_masks.now column_structural_nnz matrix_nrows matrix_ncols row_ptr.now col_idx.now values.now len words.now global_nodes.old local_row_ptr.old local_col_idx.old source_ptr.old source_indices.old).columns }
+    ensures starts { source_ptr.new ≡ (plan_of nrows ncols row_word_ptr.now row_word_indices.now row_masks.now structural_nnz column_nrows column_ncols column_word_ptr.now column_word_indices.now column_masks.now column_structural_nnz matrix_nrows matrix_ncols row_ptr.now col_idx.now values.now len words.now global_nodes.old local_row_ptr.old local_col_idx.old source_ptr.old source_indices.old).source_ptr }
+    ensures sources { source_indices.new ≡ (plan_of nrows ncols row_word_ptr.now row_word_indices.now row_masks.now structural_nnz column_nrows column_ncols column_word_ptr.now column_word_indices.now column_masks.now column_structural_nnz matrix_nrows matrix_ncols row_ptr.now col_idx.now values.now len words.now global_nodes.old local_row_ptr.old local_col_idx.old source_ptr.old source_indices.old).sources }
 {
     repeated_plan(
         views::topology(

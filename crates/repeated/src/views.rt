@@ -1,5 +1,5 @@
-// The lists of the C interface as the structs that the calls take. hybit_matrix has functions like these; they are private, as they are no part of what
-// it promises, and this crate links only what its calls run.
+// The lists of the C interface as the structs that the calls take. hybit_matrix has functions like these; they are private, as they are no part of
+// what it promises. A crate below both would make them public, 60 lines of literals, and for the benchmark's library alone.
 ghost use Rattle.std.specs.Prelude.{◌≡◌};
 
 use csr32::Csr32Matrix;

@@ -2,18 +2,16 @@
 // bytes on standard output. oracle/README.md says what a record holds, and where, and how the records are made.
 #![tactic(auto)]
 
-ghost use Rattle.std.specs.Prelude.{◌≡◌, length};
-
 use hybit_matrix::{
-    hybit_csr32_validate, hybit_mask_and_not_assign, hybit_mask_check, hybit_mask_contains,
+    Answer, hybit_csr32_validate, hybit_mask_and_not_assign, hybit_mask_check, hybit_mask_contains,
     hybit_mask_count_ones, hybit_mask_from_indices, hybit_mask_indices,
     hybit_mask_intersect_assign, hybit_mask_intersects, hybit_mask_is_empty, hybit_mask_new,
     hybit_mask_or_word, hybit_mask_set, hybit_mask_union_assign, hybit_word_base_col,
     hybit_word_bits, hybit_word_contains_offset, hybit_word_mask, hybit_word_popcount,
     hybit_word_rank, hybit_word_select, hybit_word_word_index,
 };
-use recorded::inner::Recorded;
-use records::inner::{List, number_at, put_list};
+use recorded::inner::{Matrix, Recorded};
+use records::inner::{Element, List, number_at, put_list};
 use std::io;
 use streams::inner::answer_records;
 
@@ -61,7 +59,7 @@ enum Call {
     WriteMask(MaskWriting),
 }
 
-// By a record's first byte. 0 and a byte past 22 name no call: they ask for what 8 and 22 do.
+// By a record's first byte. 0 and a byte past 22 name no call: they ask for what 8 and 22 do. So no byte is an error, and it is no `TryFrom`.
 impl From<u8> for Call {
     fn from(byte: u8) -> Call {
         match byte {
@@ -92,16 +90,17 @@ impl From<u8> for Call {
 }
 
 // The value of a call that cannot refuse.
-fn put_value(out: &mut [u8], value: u64)
-    requires { length out.old ≡ ANSWER_BYTES }
-{
-    put_list(out, 0, &[0, 1, 0, 0, value]);
+fn put_value(out: &mut [u8; ANSWER_BYTES], value: u64) {
+    Answer {
+        present: true,
+        value,
+        ..Answer::default()
+    }
+    .put(out);
 }
 
-fn answer_word(word: WordCall, call: &[u8], out: &mut [u8])
-    requires { (length call.now ≡ RECORD_BYTES) × (length out.old ≡ ANSWER_BYTES) }
-{
-    let index = (number_at(call, 8) % 4294967296) as u32;
+fn answer_word(word: WordCall, call: &[u8; RECORD_BYTES], out: &mut [u8; ANSWER_BYTES]) {
+    let index = u32::of(number_at(call, 8));
     let mask = number_at(call, 16);
     let k = number_at(call, 24) as usize;
     match word {
@@ -118,27 +117,21 @@ fn answer_word(word: WordCall, call: &[u8], out: &mut [u8])
     }
 }
 
-fn answer_matrix(call: &[u8], out: &mut [u8])
-    requires { (length call.now ≡ RECORD_BYTES) × (length out.old ≡ ANSWER_BYTES) }
-{
-    let row_ptr: List<u32, 16> = List::read(call, 40, 64);
-    let col_idx: List<u32, 16> = List::read(call, 48, 192);
-    let values: List<f64, 16> = List::read(call, 56, 320);
+fn answer_matrix(call: &[u8; RECORD_BYTES], out: &mut [u8; ANSWER_BYTES]) {
+    let matrix = Matrix::read(call, 40, 64);
     let nrows = number_at(call, 8) as usize;
     let ncols = number_at(call, 16) as usize;
     hybit_csr32_validate(
         nrows,
         ncols,
-        row_ptr.as_slice(),
-        col_idx.as_slice(),
-        values.as_slice(),
+        matrix.row_ptr.as_slice(),
+        matrix.col_idx.as_slice(),
+        matrix.values.as_slice(),
     )
     .put(out);
 }
 
-fn read_mask(reading: MaskReading, call: &[u8], out: &mut [u8])
-    requires { (length call.now ≡ RECORD_BYTES) × (length out.old ≡ ANSWER_BYTES) }
-{
+fn read_mask(reading: MaskReading, call: &[u8; RECORD_BYTES], out: &mut [u8; ANSWER_BYTES]) {
     let len = number_at(call, 8) as usize;
     let b = number_at(call, 16);
     let list: List<u64, 16> = List::read(call, 40, 64);
@@ -156,9 +149,7 @@ fn read_mask(reading: MaskReading, call: &[u8], out: &mut [u8])
     .put(out);
 }
 
-fn write_indices(call: &[u8], out: &mut [u8])
-    requires { (length call.now ≡ RECORD_BYTES) × (length out.old ≡ ANSWER_BYTES) }
-{
+fn write_indices(call: &[u8; RECORD_BYTES], out: &mut [u8; ANSWER_BYTES]) {
     let len = number_at(call, 8) as usize;
     let words: List<u64, 16> = List::read(call, 40, 64);
     let mut list: List<u64, 16> = List::read(call, 48, 192);
@@ -166,9 +157,7 @@ fn write_indices(call: &[u8], out: &mut [u8])
     put_list(out, 40, list.as_slice());
 }
 
-fn write_mask(writing: MaskWriting, call: &[u8], out: &mut [u8])
-    requires { (length call.now ≡ RECORD_BYTES) × (length out.old ≡ ANSWER_BYTES) }
-{
+fn write_mask(writing: MaskWriting, call: &[u8; RECORD_BYTES], out: &mut [u8; ANSWER_BYTES]) {
     let len = number_at(call, 8) as usize;
     let b = number_at(call, 16);
     let c = number_at(call, 24);
@@ -189,9 +178,7 @@ fn write_mask(writing: MaskWriting, call: &[u8], out: &mut [u8])
     put_list(out, 40, list.as_slice());
 }
 
-fn answer(call: &[u8], out: &mut [u8])
-    requires { (length call.now ≡ RECORD_BYTES) × (length out.old ≡ ANSWER_BYTES) }
-{
+fn answer(call: &[u8; RECORD_BYTES], out: &mut [u8; ANSWER_BYTES]) {
     match Call::from(call[0]) {
         Call::Word(word) => answer_word(word, call, out),
         Call::Matrix => answer_matrix(call, out),
@@ -201,9 +188,11 @@ fn answer(call: &[u8], out: &mut [u8])
     }
 }
 
-// Alike in the programs that replay records, but for the lengths of their records: one call is all that is left.
+// A record and its answer have fixed lengths, and so are arrays; the closure takes slices, as no closure takes an array whose length is a parameter.
 fn main(rt: HostRuntime) -> io::Result<()> {
     let mut input = rt.reader();
     let mut output = io::writer(&rt);
-    answer_records::<RECORD_BYTES, ANSWER_BYTES, _, _, _>(&mut input, &mut output, answer)
+    answer_records::<RECORD_BYTES, ANSWER_BYTES, _, _, _>(&mut input, &mut output, |call, out| {
+        answer(call.first_chunk().unwrap(), out.first_chunk_mut().unwrap())
+    })
 }

@@ -2,14 +2,12 @@
 // each an answer record of 848 bytes on standard output. oracle/README.md says what a record holds, and where, and how the records are made.
 #![tactic(auto)]
 
-ghost use Rattle.std.specs.Prelude.{◌≡◌, length};
-
 use hybit_matrix::regions::{
     hybit_close_to_field_blocks, hybit_field_block_owners, hybit_grow_field_aware_region,
     hybit_grow_undirected_region, hybit_region_multiplicity, hybit_weight,
 };
-use recorded::inner::{Layout, Recorded, Shape, Side};
-use records::inner::{List, number_at, put_list};
+use recorded::inner::{Layout, Recorded, Sides};
+use records::inner::{Element, List, number_at, put_list};
 use std::io;
 use streams::inner::answer_records;
 
@@ -27,7 +25,7 @@ enum Call {
     Owners,
 }
 
-// By a record's first byte; one that names no call asks for a field growth.
+// By a record's first byte; one that names no call asks for a field growth. So no byte is an error, and it is no `TryFrom`.
 impl From<u8> for Call {
     fn from(byte: u8) -> Call {
         match byte {
@@ -51,35 +49,38 @@ struct Masks {
     scratch: List<u64, 4>,
 }
 
-fn masks_of(call: &[u8]) -> Masks
-    requires { length call.now ≡ RECORD_BYTES }
-{
-    Masks {
-        region: List::read(call, 168, 1640),
-        frontier: List::read(call, 176, 1672),
-        scratch: List::read(call, 184, 1704),
+impl Masks {
+    fn read(call: &[u8; RECORD_BYTES]) -> Masks {
+        Masks {
+            region: List::read(call, 168, 1640),
+            frontier: List::read(call, 176, 1672),
+            scratch: List::read(call, 184, 1704),
+        }
+    }
+
+    fn put(&self, out: &mut [u8; ANSWER_BYTES]) {
+        put_list(out, 112, self.region.as_slice());
+        put_list(out, 144, self.frontier.as_slice());
+        put_list(out, 176, self.scratch.as_slice());
     }
 }
 
-fn put_masks(out: &mut [u8], masks: &Masks)
-    requires { length out.old ≡ ANSWER_BYTES }
-{
-    put_list(out, 112, masks.region.as_slice());
-    put_list(out, 144, masks.frontier.as_slice());
-    put_list(out, 176, masks.scratch.as_slice());
+// The rows and the columns of a topology.
+fn sides_of(call: &[u8; RECORD_BYTES]) -> Sides<16> {
+    Sides::read(call, 8, 72, 200)
 }
 
 // ---- growth
 
-fn growth(call: &[u8], out: &mut [u8])
-    requires { (length call.now ≡ RECORD_BYTES) × (length out.old ≡ ANSWER_BYTES) }
-{
-    let a = Shape::read(call, 8);
-    let b = Shape::read(call, 32);
-    let rows: Side<16> = Side::read(call, 72, 200, 328);
-    let columns: Side<16> = Side::read(call, 96, 584, 712);
+fn growth(call: &[u8; RECORD_BYTES], out: &mut [u8; ANSWER_BYTES]) {
+    let Sides {
+        row_shape: a,
+        column_shape: b,
+        rows,
+        columns,
+    } = sides_of(call);
     let words: List<u64, 4> = List::read(call, 160, 1608);
-    let mut masks = masks_of(call);
+    let mut masks = Masks::read(call);
     hybit_grow_undirected_region(
         a.nrows,
         a.ncols,
@@ -101,19 +102,19 @@ fn growth(call: &[u8], out: &mut [u8])
         masks.scratch.as_mut_slice(),
     )
     .put(out);
-    put_masks(out, &masks);
+    masks.put(out);
 }
 
-fn field_growth(call: &[u8], out: &mut [u8])
-    requires { (length call.now ≡ RECORD_BYTES) × (length out.old ≡ ANSWER_BYTES) }
-{
-    let a = Shape::read(call, 8);
-    let b = Shape::read(call, 32);
-    let rows: Side<16> = Side::read(call, 72, 200, 328);
-    let columns: Side<16> = Side::read(call, 96, 584, 712);
+fn field_growth(call: &[u8; RECORD_BYTES], out: &mut [u8; ANSWER_BYTES]) {
+    let Sides {
+        row_shape: a,
+        column_shape: b,
+        rows,
+        columns,
+    } = sides_of(call);
     let layout = Layout::read(call, 120, 968);
     let words: List<u64, 4> = List::read(call, 160, 1608);
-    let mut masks = masks_of(call);
+    let mut masks = Masks::read(call);
     hybit_grow_field_aware_region(
         a.nrows,
         a.ncols,
@@ -140,14 +141,12 @@ fn field_growth(call: &[u8], out: &mut [u8])
         masks.scratch.as_mut_slice(),
     )
     .put(out);
-    put_masks(out, &masks);
+    masks.put(out);
 }
 
 // ---- blocks
 
-fn closing(call: &[u8], out: &mut [u8])
-    requires { (length call.now ≡ RECORD_BYTES) × (length out.old ≡ ANSWER_BYTES) }
-{
+fn closing(call: &[u8; RECORD_BYTES], out: &mut [u8; ANSWER_BYTES]) {
     let layout = Layout::read(call, 120, 968);
     let words: List<u64, 4> = List::read(call, 160, 1608);
     let mut closed: List<u64, 4> = List::read(call, 168, 1640);
@@ -165,9 +164,7 @@ fn closing(call: &[u8], out: &mut [u8])
     put_list(out, 112, closed.as_slice());
 }
 
-fn owners(call: &[u8], out: &mut [u8])
-    requires { (length call.now ≡ RECORD_BYTES) × (length out.old ≡ ANSWER_BYTES) }
-{
+fn owners(call: &[u8; RECORD_BYTES], out: &mut [u8; ANSWER_BYTES]) {
     let layout = Layout::read(call, 120, 968);
     let dof_owners: List<u32, 16> = List::read(call, 72, 200);
     let mut found: List<u32, 80> = List::read(call, 192, 1736);
@@ -178,7 +175,7 @@ fn owners(call: &[u8], out: &mut [u8])
         layout.sizes.as_slice(),
         layout.offsets.as_slice(),
         dof_owners.as_slice(),
-        (number_at(call, 8) % 4294967296) as u32,
+        u32::of(number_at(call, 8)),
         found.as_mut_slice(),
     )
     .put(out);
@@ -187,9 +184,7 @@ fn owners(call: &[u8], out: &mut [u8])
 
 // ---- several regions
 
-fn multiplicity(call: &[u8], out: &mut [u8])
-    requires { (length call.now ≡ RECORD_BYTES) × (length out.old ≡ ANSWER_BYTES) }
-{
+fn multiplicity(call: &[u8; RECORD_BYTES], out: &mut [u8; ANSWER_BYTES]) {
     let words: List<u64, 16> = List::read(call, 88, 456);
     let mut counts: List<u32, 80> = List::read(call, 192, 1736);
     hybit_region_multiplicity(
@@ -202,9 +197,7 @@ fn multiplicity(call: &[u8], out: &mut [u8])
     put_list(out, 208, counts.as_slice());
 }
 
-fn weight(call: &[u8], out: &mut [u8])
-    requires { (length call.now ≡ RECORD_BYTES) × (length out.old ≡ ANSWER_BYTES) }
-{
+fn weight(call: &[u8; RECORD_BYTES], out: &mut [u8; ANSWER_BYTES]) {
     let words: List<u64, 16> = List::read(call, 88, 456);
     hybit_weight(
         number_at(call, 8) as usize,
@@ -218,9 +211,7 @@ fn weight(call: &[u8], out: &mut [u8])
 
 // ---- records
 
-fn answer(call: &[u8], out: &mut [u8])
-    requires { (length call.now ≡ RECORD_BYTES) × (length out.old ≡ ANSWER_BYTES) }
-{
+fn answer(call: &[u8; RECORD_BYTES], out: &mut [u8; ANSWER_BYTES]) {
     match Call::from(call[0]) {
         Call::Growth => growth(call, out),
         Call::Multiplicity => multiplicity(call, out),
@@ -231,9 +222,11 @@ fn answer(call: &[u8], out: &mut [u8])
     }
 }
 
-// Alike in the programs that replay records, but for the lengths of their records: one call is all that is left.
+// A record and its answer have fixed lengths, and so are arrays; the closure takes slices, as no closure takes an array whose length is a parameter.
 fn main(rt: HostRuntime) -> io::Result<()> {
     let mut input = rt.reader();
     let mut output = io::writer(&rt);
-    answer_records::<RECORD_BYTES, ANSWER_BYTES, _, _, _>(&mut input, &mut output, answer)
+    answer_records::<RECORD_BYTES, ANSWER_BYTES, _, _, _>(&mut input, &mut output, |call, out| {
+        answer(call.first_chunk().unwrap(), out.first_chunk_mut().unwrap())
+    })
 }

@@ -2,15 +2,14 @@
 // Texts and answers are held in arrays: memory is fixed, as a rule of the project.
 #![tactic(auto)]
 
+use job_text::TEXT_LIMIT;
+use peak_job::ANSWER_ROOM;
 use records::inner::number_at;
 use std::io::{self, Read, Write};
 use streams::read_full;
 
 // The longest text: 256 bytes more than a job may have, so that texts that are refused for their length are replayed too.
-const TEXT_BYTES: usize = 16640;
-
-// The longest answer that a job has.
-const ANSWER_BYTES: usize = 40960;
+const TEXT_BYTES: usize = TEXT_LIMIT + 256;
 
 // What became of the next text: at an end nothing more is read. `ControlFlow<()>` has as much, and its names say less of what came about.
 #[derive(Clone, Copy)]
@@ -21,12 +20,11 @@ enum Outcome {
 
 // A text without an answer ends the replay.
 fn answer<W: Write>(text: &[u8], output: &mut W) -> io::Result<Outcome> {
-    let mut out = [0u8; ANSWER_BYTES];
+    let mut out = [0u8; ANSWER_ROOM];
     match peak_job::run(text, &mut out) {
         Err(_) => Ok(Outcome::Ended),
         Ok(n) => {
-            let length = n as usize;
-            output.write_all(&out[..length])?;
+            output.write_all(&out[..n as usize])?;
             Ok(Outcome::Answered)
         }
     }

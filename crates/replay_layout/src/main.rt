@@ -2,15 +2,13 @@
 // an answer record of 176 bytes on standard output. oracle/README.md says what a record holds, and where, and how the records are made.
 #![tactic(auto)]
 
-ghost use Rattle.std.specs.Prelude.{◌≡◌, length};
-
 use hybit_matrix::layout::{
     hybit_kind_of, hybit_layout_block_range, hybit_layout_check, hybit_layout_field_mask,
     hybit_layout_locate, hybit_layout_new, hybit_layout_total_dofs,
     hybit_layout_validate_square_matrix_size,
 };
 use recorded::inner::{Layout, Recorded};
-use records::inner::{List, number_at, put_list};
+use records::inner::{Element, List, number_at, put_list};
 use std::io;
 use streams::inner::answer_records;
 
@@ -30,7 +28,7 @@ enum Call {
     FieldMask,
 }
 
-// By a record's first byte; one that names no call asks for the size of a square matrix.
+// By a record's first byte; one that names no call asks for the size of a square matrix. So no byte is an error, and it is no `TryFrom`.
 impl From<u8> for Call {
     fn from(byte: u8) -> Call {
         match byte {
@@ -46,12 +44,10 @@ impl From<u8> for Call {
     }
 }
 
-fn answer(call: &[u8], out: &mut [u8])
-    requires { (length call.now ≡ RECORD_BYTES) × (length out.old ≡ ANSWER_BYTES) }
-{
+fn answer(call: &[u8; RECORD_BYTES], out: &mut [u8; ANSWER_BYTES]) {
     let a = number_at(call, 8);
     let b = number_at(call, 16);
-    let low = (a % 4294967296) as u32;
+    let low = u32::of(a);
     let layout = Layout::read(call, 40, 88);
     let kinds = layout.kinds.as_slice();
     let ids = layout.ids.as_slice();
@@ -82,9 +78,11 @@ fn answer(call: &[u8], out: &mut [u8])
     }
 }
 
-// Alike in the programs that replay records, but for the lengths of their records: one call is all that is left.
+// A record and its answer have fixed lengths, and so are arrays; the closure takes slices, as no closure takes an array whose length is a parameter.
 fn main(rt: HostRuntime) -> io::Result<()> {
     let mut input = rt.reader();
     let mut output = io::writer(&rt);
-    answer_records::<RECORD_BYTES, ANSWER_BYTES, _, _, _>(&mut input, &mut output, answer)
+    answer_records::<RECORD_BYTES, ANSWER_BYTES, _, _, _>(&mut input, &mut output, |call, out| {
+        answer(call.first_chunk().unwrap(), out.first_chunk_mut().unwrap())
+    })
 }

@@ -3,13 +3,11 @@
 // the records are made.
 #![tactic(auto)]
 
-ghost use Rattle.std.specs.Prelude.{◌≡◌, length};
-
 use hybit_matrix::local::{
     PlanAnswer, hybit_extract_local_submatrix_pattern, hybit_gather_values,
     hybit_prepare_local_numeric_plan,
 };
-use recorded::inner::{Matrix, Recorded, Shape, Side};
+use recorded::inner::{Matrix, Recorded, Sides};
 use records::inner::{List, number_at, put_list};
 use std::io;
 use streams::inner::answer_records;
@@ -25,7 +23,7 @@ enum Call {
     Gather,
 }
 
-// By a record's first byte; one that names no call asks for a plan.
+// By a record's first byte; one that names no call asks for a plan. So no byte is an error, and it is no `TryFrom`.
 impl From<u8> for Call {
     fn from(byte: u8) -> Call {
         match byte {
@@ -45,36 +43,39 @@ struct Pattern {
     cols: List<u32, 16>,
 }
 
-fn pattern_of(call: &[u8]) -> Pattern
-    requires { length call.now ≡ RECORD_BYTES }
-{
-    Pattern {
-        nodes: List::read(call, 160, 1392),
-        ptr: List::read(call, 168, 1520),
-        cols: List::read(call, 176, 1648),
+impl Pattern {
+    fn read(call: &[u8; RECORD_BYTES]) -> Pattern {
+        Pattern {
+            nodes: List::read(call, 160, 1392),
+            ptr: List::read(call, 168, 1520),
+            cols: List::read(call, 176, 1648),
+        }
+    }
+
+    // The lists that a call may write are put over their whole room: past a list's length a record has zeros, before the call and after it.
+    fn put(&self, out: &mut [u8; ANSWER_BYTES]) {
+        put_list(out, 112, &self.nodes.room);
+        put_list(out, 240, &self.ptr.room);
+        put_list(out, 368, &self.cols.room);
     }
 }
 
-// The lists that a call may write are put over their whole room: past a list's length a record has zeros, before the call and after it.
-fn put_pattern(out: &mut [u8], pattern: &Pattern)
-    requires { length out.old ≡ ANSWER_BYTES }
-{
-    put_list(out, 112, &pattern.nodes.room);
-    put_list(out, 240, &pattern.ptr.room);
-    put_list(out, 368, &pattern.cols.room);
+// The rows and the columns of a topology.
+fn sides_of(call: &[u8; RECORD_BYTES]) -> Sides<16> {
+    Sides::read(call, 8, 80, 208)
 }
 
 // ---- calls
 
-fn answer_pattern(call: &[u8], out: &mut [u8])
-    requires { (length call.now ≡ RECORD_BYTES) × (length out.old ≡ ANSWER_BYTES) }
-{
-    let a = Shape::read(call, 8);
-    let b = Shape::read(call, 32);
-    let rows: Side<16> = Side::read(call, 80, 208, 336);
-    let columns: Side<16> = Side::read(call, 104, 592, 720);
+fn answer_pattern(call: &[u8; RECORD_BYTES], out: &mut [u8; ANSWER_BYTES]) {
+    let Sides {
+        row_shape: a,
+        column_shape: b,
+        rows,
+        columns,
+    } = sides_of(call);
     let words: List<u64, 4> = List::read(call, 152, 1360);
-    let mut pattern = pattern_of(call);
+    let mut pattern = Pattern::read(call);
     hybit_extract_local_submatrix_pattern(
         a.nrows,
         a.ncols,
@@ -95,22 +96,22 @@ fn answer_pattern(call: &[u8], out: &mut [u8])
         pattern.cols.as_mut_slice(),
     )
     .put(out);
-    put_pattern(out, &pattern);
+    pattern.put(out);
 }
 
 // The call of a plan; what it answers is put by `answer_plan`.
 fn prepared(
-    call: &[u8],
+    call: &[u8; RECORD_BYTES],
     pattern: &mut Pattern,
     source_ptr: &mut [u32],
     sources: &mut [u32],
-) -> PlanAnswer
-    requires { length call.now ≡ RECORD_BYTES }
-{
-    let a = Shape::read(call, 8);
-    let b = Shape::read(call, 32);
-    let rows: Side<16> = Side::read(call, 80, 208, 336);
-    let columns: Side<16> = Side::read(call, 104, 592, 720);
+) -> PlanAnswer {
+    let Sides {
+        row_shape: a,
+        column_shape: b,
+        rows,
+        columns,
+    } = sides_of(call);
     let matrix = Matrix::read(call, 128, 976);
     let words: List<u64, 4> = List::read(call, 152, 1360);
     hybit_prepare_local_numeric_plan(
@@ -141,10 +142,8 @@ fn prepared(
     )
 }
 
-fn answer_plan(call: &[u8], out: &mut [u8])
-    requires { (length call.now ≡ RECORD_BYTES) × (length out.old ≡ ANSWER_BYTES) }
-{
-    let mut pattern = pattern_of(call);
+fn answer_plan(call: &[u8; RECORD_BYTES], out: &mut [u8; ANSWER_BYTES]) {
+    let mut pattern = Pattern::read(call);
     let mut source_ptr: List<u32, 16> = List::read(call, 184, 1776);
     let mut sources: List<u32, 16> = List::read(call, 192, 1904);
     prepared(
@@ -154,14 +153,12 @@ fn answer_plan(call: &[u8], out: &mut [u8])
         sources.as_mut_slice(),
     )
     .put(out);
-    put_pattern(out, &pattern);
+    pattern.put(out);
     put_list(out, 496, &source_ptr.room);
     put_list(out, 624, &sources.room);
 }
 
-fn answer_gather(call: &[u8], out: &mut [u8])
-    requires { (length call.now ≡ RECORD_BYTES) × (length out.old ≡ ANSWER_BYTES) }
-{
+fn answer_gather(call: &[u8; RECORD_BYTES], out: &mut [u8; ANSWER_BYTES]) {
     let from = Matrix::read(call, 128, 976);
     let mut gathered: List<f64, 16> = List::read(call, 200, 2032);
     hybit_gather_values(
@@ -177,9 +174,7 @@ fn answer_gather(call: &[u8], out: &mut [u8])
 
 // ---- records
 
-fn answer(call: &[u8], out: &mut [u8])
-    requires { (length call.now ≡ RECORD_BYTES) × (length out.old ≡ ANSWER_BYTES) }
-{
+fn answer(call: &[u8; RECORD_BYTES], out: &mut [u8; ANSWER_BYTES]) {
     match Call::from(call[0]) {
         Call::Pattern => answer_pattern(call, out),
         Call::Plan => answer_plan(call, out),
@@ -187,9 +182,11 @@ fn answer(call: &[u8], out: &mut [u8])
     }
 }
 
-// Alike in the programs that replay records, but for the lengths of their records: one call is all that is left.
+// A record and its answer have fixed lengths, and so are arrays; the closure takes slices, as no closure takes an array whose length is a parameter.
 fn main(rt: HostRuntime) -> io::Result<()> {
     let mut input = rt.reader();
     let mut output = io::writer(&rt);
-    answer_records::<RECORD_BYTES, ANSWER_BYTES, _, _, _>(&mut input, &mut output, answer)
+    answer_records::<RECORD_BYTES, ANSWER_BYTES, _, _, _>(&mut input, &mut output, |call, out| {
+        answer(call.first_chunk().unwrap(), out.first_chunk_mut().unwrap())
+    })
 }

@@ -14,7 +14,7 @@ use hybit_matrix::one_side::{
     hybit_topology_and_not, hybit_topology_from_csr32, hybit_topology_intersection,
     hybit_topology_stats, hybit_topology_union, hybit_topology_validate, hybit_topology_xor,
 };
-use recorded::inner::{Matrix, Recorded, Shape, Side};
+use recorded::inner::{Matrix, Recorded, Shape, Side, Sides};
 use records::inner::{List, number_at, put_list};
 use std::io;
 use streams::inner::answer_records;
@@ -53,7 +53,7 @@ enum Call {
     RowWord,
 }
 
-// By a record's first byte; one that names no call asks for a row's select.
+// By a record's first byte; one that names no call asks for a row's select. So no byte is an error, and it is no `TryFrom`.
 impl From<u8> for Call {
     fn from(byte: u8) -> Call {
         match byte {
@@ -79,16 +79,13 @@ impl From<u8> for Call {
 
 // ---- parts of a record
 
-fn rows_of(call: &[u8]) -> Side<16>
-    requires { length call.now ≡ RECORD_BYTES }
-{
+fn rows_of(call: &[u8; RECORD_BYTES]) -> Side<16> {
     Side::read(call, 80, 168, 296)
 }
 
-fn columns_of(call: &[u8]) -> Side<144>
-    requires { length call.now ≡ RECORD_BYTES }
-{
-    Side::read(call, 104, 552, 1704)
+// The rows and the columns of a topology, or the two sides of a set operation.
+fn sides_of(call: &[u8; RECORD_BYTES]) -> Sides<144> {
+    Sides::read(call, 8, 80, 168)
 }
 
 fn lists<const P: usize>(side: &Side<P>) -> (&[u32], &[u32], &[u64]) {
@@ -100,9 +97,7 @@ fn lists<const P: usize>(side: &Side<P>) -> (&[u32], &[u32], &[u64]) {
 }
 
 // The first three lists that a call may write.
-fn put_side(out: &mut [u8], side: &Side<16>)
-    requires { length out.old ≡ ANSWER_BYTES }
-{
+fn put_side(out: &mut [u8; ANSWER_BYTES], side: &Side<16>) {
     put_list(out, 96, side.ptr.as_slice());
     put_list(out, 224, side.words.as_slice());
     put_list(out, 352, side.masks.as_slice());
@@ -112,18 +107,14 @@ fn put_side(out: &mut [u8], side: &Side<16>)
 
 // Checks and statistics, of one side and of both, differ in the call that they make alone: C names each, and each answers a record of its own.
 
-fn validate(call: &[u8], out: &mut [u8])
-    requires { (length call.now ≡ RECORD_BYTES) × (length out.old ≡ ANSWER_BYTES) }
-{
+fn validate(call: &[u8; RECORD_BYTES], out: &mut [u8; ANSWER_BYTES]) {
     let a = Shape::read(call, 8);
     let side = rows_of(call);
     let (ptr, words, masks) = lists(&side);
     hybit_topology_validate(a.nrows, a.ncols, ptr, words, masks, a.pairs).put(out);
 }
 
-fn stats(call: &[u8], out: &mut [u8])
-    requires { (length call.now ≡ RECORD_BYTES) × (length out.old ≡ ANSWER_BYTES) }
-{
+fn stats(call: &[u8; RECORD_BYTES], out: &mut [u8; ANSWER_BYTES]) {
     let a = Shape::read(call, 8);
     let side = rows_of(call);
     let (ptr, words, masks) = lists(&side);
@@ -132,9 +123,7 @@ fn stats(call: &[u8], out: &mut [u8])
 
 // ---- building from a matrix
 
-fn from_matrix(call: &[u8], out: &mut [u8])
-    requires { (length call.now ≡ RECORD_BYTES) × (length out.old ≡ ANSWER_BYTES) }
-{
+fn from_matrix(call: &[u8; RECORD_BYTES], out: &mut [u8; ANSWER_BYTES]) {
     let a = Shape::read(call, 8);
     let matrix = Matrix::read(call, 80, 168);
     let mut rows: Side<16> = Side::read(call, 104, 552, 1704);
@@ -152,9 +141,7 @@ fn from_matrix(call: &[u8], out: &mut [u8])
     put_side(out, &rows);
 }
 
-fn dual_from_matrix(call: &[u8], out: &mut [u8])
-    requires { (length call.now ≡ RECORD_BYTES) × (length out.old ≡ ANSWER_BYTES) }
-{
+fn dual_from_matrix(call: &[u8; RECORD_BYTES], out: &mut [u8; ANSWER_BYTES]) {
     let a = Shape::read(call, 8);
     let matrix = Matrix::read(call, 80, 168);
     let mut rows: Side<16> = Side::read(call, 104, 552, 1704);
@@ -187,15 +174,11 @@ fn dual_from_matrix(call: &[u8], out: &mut [u8])
 
 // ---- two sides
 
-fn set_operation(set: SetCall, call: &[u8], out: &mut [u8])
-    requires { (length call.now ≡ RECORD_BYTES) × (length out.old ≡ ANSWER_BYTES) }
-{
-    let a = Shape::read(call, 8);
-    let first = rows_of(call);
-    let (ptr_a, words_a, masks_a) = lists(&first);
-    let b = Shape::read(call, 32);
-    let second = columns_of(call);
-    let (ptr_b, words_b, masks_b) = lists(&second);
+fn set_operation(set: SetCall, call: &[u8; RECORD_BYTES], out: &mut [u8; ANSWER_BYTES]) {
+    let sides = sides_of(call);
+    let (a, b) = (sides.row_shape, sides.column_shape);
+    let (ptr_a, words_a, masks_a) = lists(&sides.rows);
+    let (ptr_b, words_b, masks_b) = lists(&sides.columns);
     let mut side: Side<16> = Side::read(call, 128, 1960, 3112);
     let ptr = side.ptr.as_mut_slice();
     let words = side.words.as_mut_slice();
@@ -222,15 +205,11 @@ fn set_operation(set: SetCall, call: &[u8], out: &mut [u8])
     put_side(out, &side);
 }
 
-fn dual_validate(call: &[u8], out: &mut [u8])
-    requires { (length call.now ≡ RECORD_BYTES) × (length out.old ≡ ANSWER_BYTES) }
-{
-    let a = Shape::read(call, 8);
-    let rows = rows_of(call);
-    let (ptr_a, words_a, masks_a) = lists(&rows);
-    let b = Shape::read(call, 32);
-    let columns = columns_of(call);
-    let (ptr_b, words_b, masks_b) = lists(&columns);
+fn dual_validate(call: &[u8; RECORD_BYTES], out: &mut [u8; ANSWER_BYTES]) {
+    let sides = sides_of(call);
+    let (a, b) = (sides.row_shape, sides.column_shape);
+    let (ptr_a, words_a, masks_a) = lists(&sides.rows);
+    let (ptr_b, words_b, masks_b) = lists(&sides.columns);
     hybit_dual_topology_validate(
         a.nrows, a.ncols, ptr_a, words_a, masks_a, a.pairs, b.nrows, b.ncols, ptr_b, words_b,
         masks_b, b.pairs,
@@ -238,15 +217,11 @@ fn dual_validate(call: &[u8], out: &mut [u8])
     .put(out);
 }
 
-fn dual_stats(call: &[u8], out: &mut [u8])
-    requires { (length call.now ≡ RECORD_BYTES) × (length out.old ≡ ANSWER_BYTES) }
-{
-    let a = Shape::read(call, 8);
-    let rows = rows_of(call);
-    let (ptr_a, words_a, masks_a) = lists(&rows);
-    let b = Shape::read(call, 32);
-    let columns = columns_of(call);
-    let (ptr_b, words_b, masks_b) = lists(&columns);
+fn dual_stats(call: &[u8; RECORD_BYTES], out: &mut [u8; ANSWER_BYTES]) {
+    let sides = sides_of(call);
+    let (a, b) = (sides.row_shape, sides.column_shape);
+    let (ptr_a, words_a, masks_a) = lists(&sides.rows);
+    let (ptr_b, words_b, masks_b) = lists(&sides.columns);
     hybit_dual_topology_stats(
         a.nrows, a.ncols, ptr_a, words_a, masks_a, a.pairs, b.nrows, b.ncols, ptr_b, words_b,
         masks_b, b.pairs,
@@ -254,15 +229,11 @@ fn dual_stats(call: &[u8], out: &mut [u8])
     .put(out);
 }
 
-fn row_call(row: RowCall, call: &[u8], out: &mut [u8])
-    requires { (length call.now ≡ RECORD_BYTES) × (length out.old ≡ ANSWER_BYTES) }
-{
-    let a = Shape::read(call, 8);
-    let rows = rows_of(call);
-    let (ptr_a, words_a, masks_a) = lists(&rows);
-    let b = Shape::read(call, 32);
-    let second = columns_of(call);
-    let (ptr_b, words_b, masks_b) = lists(&second);
+fn row_call(row: RowCall, call: &[u8; RECORD_BYTES], out: &mut [u8; ANSWER_BYTES]) {
+    let sides = sides_of(call);
+    let (a, b) = (sides.row_shape, sides.column_shape);
+    let (ptr_a, words_a, masks_a) = lists(&sides.rows);
+    let (ptr_b, words_b, masks_b) = lists(&sides.columns);
     let columns = number_at(call, 56) != 0;
     let number = number_at(call, 64);
     let k = number_at(call, 72);
@@ -292,15 +263,11 @@ fn row_call(row: RowCall, call: &[u8], out: &mut [u8])
 }
 
 // Apart from the other calls on a row, since it answers a record of two numbers.
-fn row_word(call: &[u8], out: &mut [u8])
-    requires { (length call.now ≡ RECORD_BYTES) × (length out.old ≡ ANSWER_BYTES) }
-{
-    let a = Shape::read(call, 8);
-    let rows = rows_of(call);
-    let (ptr_a, words_a, masks_a) = lists(&rows);
-    let b = Shape::read(call, 32);
-    let second = columns_of(call);
-    let (ptr_b, words_b, masks_b) = lists(&second);
+fn row_word(call: &[u8; RECORD_BYTES], out: &mut [u8; ANSWER_BYTES]) {
+    let sides = sides_of(call);
+    let (a, b) = (sides.row_shape, sides.column_shape);
+    let (ptr_a, words_a, masks_a) = lists(&sides.rows);
+    let (ptr_b, words_b, masks_b) = lists(&sides.columns);
     let columns = number_at(call, 56) != 0;
     let number = number_at(call, 64);
     let k = number_at(call, 72);
@@ -313,9 +280,7 @@ fn row_word(call: &[u8], out: &mut [u8])
 
 // ---- records
 
-fn answer(call: &[u8], out: &mut [u8])
-    requires { (length call.now ≡ RECORD_BYTES) × (length out.old ≡ ANSWER_BYTES) }
-{
+fn answer(call: &[u8; RECORD_BYTES], out: &mut [u8; ANSWER_BYTES]) {
     match Call::from(call[0]) {
         Call::Validate => validate(call, out),
         Call::Stats => stats(call, out),
@@ -329,9 +294,16 @@ fn answer(call: &[u8], out: &mut [u8])
     }
 }
 
-// Alike in the programs that replay records, but for the lengths of their records: one call is all that is left.
+// The same of slices, as which both are handed in: no closure takes an array whose length is a parameter. Written as a closure, as in the other
+// programs that replay records, the check did not find that both arrays are there.
+fn answer_slices(call: &[u8], out: &mut [u8])
+    requires { (length call.now ≡ RECORD_BYTES) × (length out.old ≡ ANSWER_BYTES) }
+{
+    answer(call.first_chunk().unwrap(), out.first_chunk_mut().unwrap())
+}
+
 fn main(rt: HostRuntime) -> io::Result<()> {
     let mut input = rt.reader();
     let mut output = io::writer(&rt);
-    answer_records::<RECORD_BYTES, ANSWER_BYTES, _, _, _>(&mut input, &mut output, answer)
+    answer_records::<RECORD_BYTES, ANSWER_BYTES, _, _, _>(&mut input, &mut output, answer_slices)
 }

@@ -18,7 +18,7 @@ use Rattle.base.proofs.Bools.{and_left, and_right, and_i, T_of, T_true, or-e, or
 use Rattle.base.proofs.Checks.{passed, both-passed, refused-not-accepted}
 use Rattle.base.proofs.Lists.{part_slice, get_or-slice, pairwise-at, pairwise-i, rise-to, step_of}
 use Rattle.base.proofs.Sets.{None, First, first-at, first-is, first-none}
-use Rattle.side.specs.Check.{limit_check, fault_refusal, fault_check, side_room, bits_in, lists_agree, is_word_inside, good_word, bad_word, row_at, bad_at, words_fault, side_fault, Rising, IsRows, IsSide}
+use Rattle.side.specs.Check.{limit_check, fault_refusal, fault_check, side_room, bits_in, lists_agree, is_word_inside, good_word, bad_word, row_at, bad_at, words_fault, side_fault, side_check, Rising, IsRows, IsSide}
 use Rattle.side.specs.declared.Fault.{Fault}
 use Rattle.side.proofs.Words.{bad-some, bad-none}
 
@@ -331,6 +331,25 @@ module _ (nrows ncols : ℕ) (ptr idx masks : List ℕ) (pairs : ℕ) where
           let g : good_word ncols idx masks (get_or ptr q.0 0) k ≡ true =
           good-word ncols idx masks (get_or ptr q.0 0) k (m.used k h) q.2 (λ l. m.rising q.0 q.1 (k - 1) k (omega arith) (omega arith) q.3) (m.inside k h) in
           subst (λ (x : Bool). T x) (bad-is nrows ncols ptr idx masks m.shape q.0 k q.1 q.2 q.3 ∙ ap not g) t
+
+  -- the check accepts exactly the sides
+  pub accepted-side : ((k : ℕ) → get_or masks k 0 < 2 ^ 64) → side_check nrows ncols ptr idx masks pairs ≡ Ok tt → IsSide nrows ncols ptr idx masks × (pairs ≡ bits_in masks 0 (length masks))
+  unfolding side_check
+  accepted-side fits e =
+      let q = both-passed _ _ e in
+      let w = limits_passed nrows ncols idx masks pairs q.0 in
+      sound-side w.few_rows w.few_cols w.few_words w.few_pairs fits (sound-only _ q.1)
+
+  pub side-accepted : IsSide nrows ncols ptr idx masks → pairs ≡ bits_in masks 0 (length masks) → side_check nrows ncols ptr idx masks pairs ≡ Ok tt
+  unfolding side_check ◌then◌
+  side-accepted m e =
+      rw (limits_pass nrows ncols idx masks pairs (record {
+        few_rows = m.shape.few_rows;
+        few_cols = m.few_cols;
+        few_indices = omega (arith, m.shape.as_many, m.shape.few_words);
+        few_words = m.shape.few_words;
+        few_pairs = omega (arith, m.few_pairs);
+      })) (sound-accepted (side_fault nrows ncols ptr idx masks pairs) (side-sound m e))
 
 -- a side under sizes that are equal to its own
 pub side-as : (nrows ncols nrows' ncols' : ℕ) (ptr idx masks : List ℕ) → nrows ≡ nrows' → ncols ≡ ncols' → IsSide nrows ncols ptr idx masks → IsSide nrows' ncols' ptr idx masks

@@ -1,13 +1,12 @@
 -- A row's words and the columns that they hold. Assumes nothing.
 use mathlib.Core.Path.{◌≡◌, refl, sym, ap, ◌∙◌, subst, ap₂}
 use mathlib.Core.Logic.{◌⊎◌, inl, inr, ◌≢◌}
-use mathlib.Core.Bool.{Bool, false, not, cond, ◌||◌, ◌&&◌}
+use mathlib.Core.Bool.{Bool, false, cond, ◌||◌, ◌&&◌}
 use mathlib.Core.List.{List, [], ◌∷◌}
 use Prim.Native.Nat.{ℕ, zero, suc, ◌+◌, ◌-◌, ◌*◌, ◌/◌, ◌%◌, ◌^◌, ◌≤◌, ◌<◌}
 use native.Mathlib.Omega.{arith}
 use native.Mathlib.Nat.{not-suc-le-zero, le_refl}
 use native.Mathlib.Decide.{ℕ_discrete}
-use lib.Bits.{bit_and}
 use lib.Dec.{T, eqb}
 use lib.ListN.{length, get_or}
 use lib.Seq.{slice, length-slice}
@@ -15,7 +14,7 @@ use borrow.Author.Tests.{eq-eqb, ne_eqb}
 use Rattle.base.proofs.Bools.{bool-ext, eq-or-ne, or-false}
 use Rattle.base.proofs.Lists.{get_or-slice}
 use Rattle.word.specs.Bits.{bit_at, word_of}
-use Rattle.word.proofs.Bits.{zero_bit, one_shl, bit_test}
+use Rattle.word.proofs.Bits.{zero_bit}
 use Rattle.word.proofs.Words.{bit_word, word-of-bits}
 use Rattle.side.specs.Side.{mask_for, row_holds}
 use Rattle.side.specs.Check.{Rising}
@@ -87,11 +86,6 @@ module _ (idx masks : List ℕ) (from to : ℕ) (h : from ≤ to) (hi : to ≤ l
       let f : (k : ℕ) × (from ≤ k) × (k < to) × (get_or idx k 0 ≡ c / 64) = found c t in
       let b : T (bit_at (get_or masks f.0 0) (c % 64)) = subst (λ (x : Bool). T x) (holds_at f.0 c f.1 f.2 f.3) t in
       omega (arith, bit_in ncols (get_or idx f.0 0) (get_or masks f.0 0) (ins f.0 f.1 f.2) (c % 64) (omega arith) b, f.3)
-
-  -- the test of a column whose word stands at k
-  pub contains-at : (k c : ℕ) → from ≤ k → k < to → get_or idx k 0 ≡ c / 64 → not (eqb (bit_and (get_or masks k 0) ((1 * 2 ^ (c % 64)) % 2 ^ 64)) 0) ≡ row_holds idx masks from to c
-  contains-at k c a b e =
-      ap (λ (x : ℕ). not (eqb (bit_and (get_or masks k 0) x) 0)) (one_shl (c % 64) (omega arith)) ∙ bit_test (get_or masks k 0) (c % 64) ∙ sym (holds_at k c a b e)
 
   -- the words of the columns p hold p
   pub row-holds : (p : ℕ → Bool) → Row p idx masks from to → (c : ℕ) → row_holds idx masks from to c ≡ p c

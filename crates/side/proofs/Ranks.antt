@@ -4,12 +4,10 @@ use Rattle.std.specs.Prelude.{Some, None}
 use mathlib.Core.Logic.{◌≢◌}
 use mathlib.Core.Bool.{Bool, true, false, ◌&&◌}
 use mathlib.Core.List.{List}
-use Prim.Native.Nat.{ℕ, ◌+◌, ◌-◌, ◌*◌, ◌/◌, ◌%◌, ◌^◌, ◌≤◌, ◌<◌}
+use Prim.Native.Nat.{ℕ, ◌+◌, ◌*◌, ◌/◌, ◌%◌, ◌≤◌, ◌<◌}
 use native.Mathlib.Omega.{arith}
 use native.Mathlib.Decide.{dec_lt}
 use borrow.Author.Tests.{lt-ltb}
-use lib.Bits.{bit_and}
-use lib.Count.{ones}
 use lib.Dec.{T, ltb, ltb→lt}
 use lib.ListN.{length, get_or}
 use Rattle.base.specs.Sets.{one_if, count_below, members_below}
@@ -17,7 +15,6 @@ use Rattle.base.proofs.Bools.{and_l, and_r}
 use Rattle.base.proofs.Sets.{sum-append, count-cong, count-members, members-at, count-member, get_or-count, count-get_or}
 use Rattle.word.specs.Bits.{bit_at, set_bits}
 use Rattle.word.specs.Answers.{entry, select_answer}
-use Rattle.word.proofs.Bits.{one_shl, rank-count}
 use Rattle.word.proofs.Words.{bit_word, word-ext}
 use Rattle.word.proofs.Answers.{entry_in, entry_past}
 use Rattle.side.specs.Check.{bits_in}
@@ -90,12 +87,10 @@ module _ (p : ℕ → Bool) (idx masks : List ℕ) (from to : ℕ) (row : Row p 
           go (no v) = let e : k ≡ j = omega arith in omega (arith, ap (λ (n : ℕ). get_or idx n 0) e)
 
   -- `rank`: the column's word is stored, or it is not
-  pub rank-word : (col r : ℕ) → from ≤ r → r < to → get_or idx r 0 ≡ col / 64 → bits_in masks from r + ones (bit_and (get_or masks r 0) ((1 * 2 ^ (col % 64)) % 2 ^ 64 - 1)) ≡ count_below col p
+  pub rank-word : (col r : ℕ) → from ≤ r → r < to → get_or idx r 0 ≡ col / 64 → bits_in masks from r + count_below (col % 64) (bit_at (get_or masks r 0)) ≡ count_below col p
   rank-word col r h u e =
       let s : 64 * get_or idx r 0 + col % 64 ≡ col = omega arith in
-      ap (λ (x : ℕ). bits_in masks from r + ones (bit_and (get_or masks r 0) (x - 1))) (one_shl (col % 64) (omega arith))
-      ∙ ap (λ (x : ℕ). bits_in masks from r + x) (rank-count (get_or masks r 0) (col % 64))
-      ∙ sym (count_word r (col % 64) h u (omega arith)) ∙ ap (λ (n : ℕ). count_below n p) s
+      sym (count_word r (col % 64) h u (omega arith)) ∙ ap (λ (n : ℕ). count_below n p) s
 
   pub rank-none : (col r : ℕ) → Lower idx from to (col / 64) r → (r < to → get_or idx r 0 ≢ col / 64) → bits_in masks from r ≡ count_below col p
   rank-none col r lo ne = count-upto r col lo.low lo.high (λ k a d. omega (arith, lo.below k a d)) (λ k a d. over k a d)

@@ -5,16 +5,18 @@ use mathlib.Core.Bool.{Bool, true, false, not, ◌||◌}
 use mathlib.Core.List.{List, ◌++◌}
 use Prim.Native.Nat.{ℕ, zero, suc, ◌+◌, ◌-◌, ◌*◌, ◌/◌, ◌%◌, ◌^◌, ◌≤◌, ◌<◌}
 use native.Mathlib.Omega.{arith}
-use native.Mathlib.Nat.{le_refl, zero-add, add-zero, add_assoc}
+use native.Mathlib.Nat.{le_refl, zero-add}
 use native.Mathlib.Numerals.{add-one}
-use lib.Count.{ones, ones-le}
+use lib.Count.{ones}
 use lib.Dec.{T, ltb, lt→ltb, not_T}
-use lib.ListN.{length, get_or, take, length-map, get_or-eq_default}
-use lib.Seq.{slice, take-length, length-take-le, ext_get_or, drop-nil}
+use lib.ListN.{length, get_or, take, drop, length-map, get_or-eq_default}
+use lib.Seq.{slice, take-length, length-slice, length-take-le, ext_get_or, drop-nil}
+use Rattle.std.specs.List.{sum_by}
 use Rattle.base.specs.Checks.{side_limit, entry_limit}
 use Rattle.base.specs.Sets.{sum_below, count_below, one_if}
 use Rattle.base.proofs.Bools.{T_true, T_false, or_l, or_r, decide, lt-or-le}
-use Rattle.base.proofs.Lists.{take_on, length-list_from, get_or-list_from, rise-to, step_of}
+use Rattle.base.proofs.Passes.{sum-list}
+use Rattle.base.proofs.Lists.{part_slice, get_or-slice, take_on, length-list_from, get_or-list_from, rise-to, step_of}
 use Rattle.base.proofs.Joins.{join-none, join-next, join-slice, join_up, join-length, join-count}
 use Rattle.base.proofs.Sets.{every-i, sum-zero, sum-suc, sum-append, sum-cong, sum-most, sum-le, count-le, sum-swap}
 use Rattle.word.specs.Bits.{bit_at, word_of}
@@ -53,20 +55,19 @@ bits-next masks from i h =
     f : ℕ → ℕ
     f = λ j. count_below 64 (bit_at (get_or masks (from + j) 0))
 
--- one mask more, by its length
-pub bits-more : (masks : List ℕ) (from i : ℕ) → get_or masks (from + i) 0 < 2 ^ 64 → bits_in masks from (from + (i + 1)) ≡ bits_in masks from (from + i) + ones (get_or masks (from + i) 0)
-bits-more masks from i h =
-    ap (bits_in masks from) (sym (add_assoc from i 1)) ∙ bits-next masks from (from + i) (omega arith)
-    ∙ ap (λ (x : ℕ). bits_in masks from (from + i) + x) (sym (ones-count 64 (get_or masks (from + i) 0) h))
-
-pub bits-start : (masks : List ℕ) (from : ℕ) → bits_in masks from (from + 0) ≡ 0
-bits-start masks from = ap (bits_in masks from) (add-zero from) ∙ bits_none masks from
+-- the set bits of a part of the list together
+pub bits-list : (masks : List ℕ) (from to : ℕ) → to ≤ length masks → ((k : ℕ) → get_or masks k 0 < 2 ^ 64) → sum_by ones (take (to - from) (drop from masks)) ≡ bits_in masks from to
+unfolding bits_in
+bits-list masks from to h fits =
+    let l : List ℕ = slice from to masks in
+    ap (sum_by ones) (part_slice from to masks) ∙ sum-list ones l
+    ∙ ap (λ (n : ℕ). sum_below n (λ j. ones (get_or l j 0))) (length-slice from to masks h)
+    ∙ sum-cong (to - from) (λ j. ones (get_or l j 0)) (λ j. count_below 64 (bit_at (get_or masks (from + j) 0)))
+    (λ j u. ap ones (get_or-slice from to masks j (omega arith)) ∙ ones-count 64 (get_or masks (from + j) 0) (fits (from + j)))
 
 pub bits-le : (masks : List ℕ) (from to : ℕ) → bits_in masks from to ≤ 64 * (to - from)
 unfolding bits_in
 bits-le masks from to = sum-most (to - from) 64 (λ j. count_below 64 (bit_at (get_or masks (from + j) 0))) (λ j h. count-le 64 (bit_at (get_or masks (from + j) 0)))
-
-pub ruleset counting = (bits-start, bits-more, bits-le, ones-le)
 
 -- ---- rows one after the other: row r of s stands between ends r and ends (r + 1)
 

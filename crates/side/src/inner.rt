@@ -1,18 +1,19 @@
 // The work on the words of a side, for callers that have checked: no part of the API.
-ghost use Rattle.std.specs.Prelude.{◌≡◌, Err, IfOk, IfErr, ◌&&◌, ltb, ◌+◌, ◌-◌, ◌≤◌, ◌<◌, length, get_or};
+ghost use Rattle.std.specs.Prelude.{◌≡◌, ◌≢◌, Err, IfOk, IfErr, ◌&&◌, ltb, ◌+◌, ◌-◌, ◌≤◌, ◌<◌, length, get_or};
+ghost use Rattle.std.proofs.Math.Seq.{slice};
 ghost use Rattle.base.specs.Checks.{side_limit, entry_limit};
 ghost use Rattle.base.specs.Sets.{count_below, members_below};
 ghost use Rattle.word.specs.Answers.{entry};
 ghost use Rattle.side.specs.Side.{words_of_row, word_at};
-ghost use Rattle.side.specs.Check.{limit_check, side_room, bits_in, is_word_inside, bad_word, words_fault, side_fault, Rising, IsRows, IsSide};
-ghost use Rattle.side.specs.Row.{lower_in, Lower, IsWords};
+ghost use Rattle.side.specs.Check.{side_room, bits_in, is_word_inside, bad_word, words_fault, side_fault, Rising, IsRows, IsSide};
+ghost use Rattle.side.specs.Row.{lower_in, search_in, Lower, IsWords};
 
 use crate::{AbtmTopology, BadWord, Fault};
 use base::Refusal;
 use word::AbtmTopologyWord;
 
-// A side that was accepted. Document 01 makes the Rust's iterator `words()` a position in two lists: whoever reads a row's words counts positions, and
-// reads both lists there.
+// A side that was accepted. Whoever reads a row's words counts positions, and reads both lists there: a position in two lists, for the iterator
+// `words()` of the Rust, is one of the forms that are asked for.
 #[derive(Clone, Copy)]
 pub struct Side<'a> {
     pub nrows: usize,
@@ -33,7 +34,7 @@ pub struct RowWords<'a> {
 }
 
 impl<'a> AbtmTopology<'a> {
-    ghost use Rattle.side.specs.Views.{check_side, SoundSide, WithinLimits, AcceptedFrom};
+    ghost use Rattle.side.specs.Views.{check_side, check_limits, fault_in, IsLent, SoundSide, WithinLimits, AcceptedFrom};
 
     pub fn accept(self) -> Result<Side<'a>, Refusal>
         ensures refused { IfErr result (λ e. check_side self.entry ≡ Err e) }
@@ -45,7 +46,7 @@ impl<'a> AbtmTopology<'a> {
 
     // For a caller that has checked it.
     pub fn as_side(self) -> Side<'a>
-        requires { IsSide self.nrows self.ncols self.row_word_ptr.now self.word_indices.now self.masks.now }
+        requires { IsLent self }
         ensures { AcceptedFrom self.entry result }
     {
         Side {
@@ -57,24 +58,17 @@ impl<'a> AbtmTopology<'a> {
         }
     }
 
-    // Refusal 1 of one side: a test each, as the law of a chain of checks takes one condition at a time.
+    // `OverLimit` of one side.
     #[tactic(auto, using(base::proofs::Checks::checks), unfolding(crate::specs::Check::limit_check))]
     pub fn check_limits(self) -> Result<(), Refusal>
-        ensures { result ≡ limit_check self.entry.nrows self.entry.ncols self.entry.word_indices.now self.entry.masks.now self.entry.structural_nnz }
+        ensures { result ≡ check_limits self.entry }
     {
-        if self.nrows > base::SIDE_LIMIT {
-            return Err(Refusal::OverLimit);
-        }
-        if self.ncols > base::SIDE_LIMIT {
-            return Err(Refusal::OverLimit);
-        }
-        if self.word_indices.len() > base::ENTRY_LIMIT {
-            return Err(Refusal::OverLimit);
-        }
-        if self.masks.len() > base::ENTRY_LIMIT {
-            return Err(Refusal::OverLimit);
-        }
-        if self.structural_nnz > base::ENTRY_LIMIT {
+        if self.nrows > base::SIDE_LIMIT
+            || self.ncols > base::SIDE_LIMIT
+            || self.word_indices.len() > base::ENTRY_LIMIT
+            || self.masks.len() > base::ENTRY_LIMIT
+            || self.structural_nnz > base::ENTRY_LIMIT
+        {
             return Err(Refusal::OverLimit);
         }
         Ok(())
@@ -83,7 +77,7 @@ impl<'a> AbtmTopology<'a> {
     // Its first fault, where it is within the limits.
     pub fn fault(self) -> Result<(), Fault>
         requires { WithinLimits self }
-        ensures value { result ≡ side_fault self.entry.nrows self.entry.ncols self.entry.row_word_ptr.now self.entry.word_indices.now self.entry.masks.now self.entry.structural_nnz }
+        ensures value { result ≡ fault_in self.entry }
         ensures sound { IfOk result (λ t. SoundSide self.entry) }
     {
         first_fault(
@@ -97,7 +91,7 @@ impl<'a> AbtmTopology<'a> {
     }
 }
 
-// Refusal 25 of a side that is written. It takes the lists for their lengths: as numbers of one type these would be mixed up sooner.
+// `ListTooShort` of a side that is written. It takes the lists for their lengths: as numbers of one type these would be mixed up sooner.
 #[tactic(auto, using(base::proofs::Checks::checks), unfolding(crate::specs::Check::side_room))]
 pub fn check_room(
     rows: usize,
@@ -108,37 +102,29 @@ pub fn check_room(
 ) -> Result<(), Refusal>
     ensures { result ≡ side_room rows words (length row_word_ptr.now) (length word_indices.now) (length masks.now) }
 {
-    if rows >= row_word_ptr.len() {
-        return Err(Refusal::ListTooShort);
-    }
-    if words > word_indices.len() {
-        return Err(Refusal::ListTooShort);
-    }
-    if words > masks.len() {
+    if rows >= row_word_ptr.len() || words > word_indices.len() || words > masks.len() {
         return Err(Refusal::ListTooShort);
     }
     Ok(())
 }
 
 // The set bits of the masks from..to: two places, since what callers know is of places of the whole list.
-#[tactic(auto, using(crate::proofs::Sides::counting))]
 pub fn count_bits(masks: &[u64], from: usize, to: usize) -> usize
     requires { (from ≤ to) × (to ≤ length masks.now) × (to - from ≤ entry_limit) }
     ensures { result ≡ bits_in masks.now from to }
 {
-    let mut sum: usize = 0;
-    for mask in &masks[from..to] {
-        sum += mask.count_ones() as usize;
-    }
-    sum
+    masks[from..to]
+        .iter()
+        .map(|mask| mask.count_ones() as usize)
+        .sum()
 }
 
 // Whether no bit of the word, which is not 0, is at or past ncols.
-fn word_inside(ncols: usize, word: u32, mask: u64) -> bool
-    requires { (0 < mask) × (ncols ≤ side_limit) }
-    ensures { result ≡ is_word_inside ncols word mask }
+fn word_inside(ncols: usize, word: AbtmTopologyWord) -> bool
+    requires { (0 < word.mask) × (ncols ≤ side_limit) }
+    ensures { result ≡ is_word_inside ncols word.word_index word.mask }
 {
-    let first = word as usize * AbtmTopologyWord::BITS;
+    let first = word.base_col();
     if ncols <= first {
         return false;
     }
@@ -146,7 +132,7 @@ fn word_inside(ncols: usize, word: u32, mask: u64) -> bool
     if left >= AbtmTopologyWord::BITS {
         return true;
     }
-    mask >> left == 0
+    word.mask >> left == 0
 }
 
 // The place of the first bad word of a row, or none. The tests read both lists at k, one of them at k - 1 too: `find` would hold the same body.
@@ -157,13 +143,10 @@ fn first_bad(ncols: usize, word_indices: &[u32], masks: &[u64]) -> Option<usize>
     for k in 0..masks.len() {
         let word = word_indices[k];
         let mask = masks[k];
-        if mask == 0 {
-            return Some(k);
-        }
-        if k > 0 && word <= word_indices[k - 1] {
-            return Some(k);
-        }
-        if !word_inside(ncols, word, mask) {
+        if mask == 0
+            || k > 0 && word <= word_indices[k - 1]
+            || !word_inside(ncols, AbtmTopologyWord::new(word, mask))
+        {
             return Some(k);
         }
     }
@@ -194,8 +177,7 @@ fn check_words(
     Ok(())
 }
 
-// The first fault of one side within the limits; a test each, as the later ones read what the earlier ones allow. That words are below 2 ^ 64 is
-// known of a list that is handed in, and not of one in a struct.
+// The first fault of one side within the limits. That words are below 2 ^ 64 is known of a list that is handed in, and not of one in a struct.
 #[tactic(auto, unfolding(crate::specs::Check::side_fault, crate::specs::Check::lists_agree))]
 fn first_fault(
     nrows: usize,
@@ -209,29 +191,20 @@ fn first_fault(
     ensures value { result ≡ side_fault nrows ncols row_word_ptr.now word_indices.now masks.now structural_nnz }
     ensures sound { IfOk result (λ t. IsSide nrows ncols row_word_ptr.now word_indices.now masks.now × (structural_nnz ≡ bits_in masks.now 0 (length masks.now))) }
 {
-    if row_word_ptr.len() != nrows + 1 {
-        return Err(Fault::Lists);
-    }
-    if word_indices.len() != masks.len() {
-        return Err(Fault::Lists);
-    }
-    if row_word_ptr[0] != 0 {
-        return Err(Fault::Lists);
-    }
-    if row_word_ptr[nrows] as usize != masks.len() {
-        return Err(Fault::Lists);
-    }
-    if !base::scan::never_falls(row_word_ptr) {
-        return Err(Fault::Lists);
-    }
-    if count_bits(masks, 0, masks.len()) != structural_nnz {
+    if row_word_ptr.len() != nrows + 1
+        || word_indices.len() != masks.len()
+        || row_word_ptr[0] != 0
+        || row_word_ptr[nrows] as usize != masks.len()
+        || !base::scan::never_falls(row_word_ptr)
+        || count_bits(masks, 0, masks.len()) != structural_nnz
+    {
         return Err(Fault::Lists);
     }
     check_words(nrows, ncols, row_word_ptr, word_indices, masks)
 }
 
-// The first place at or after `from`, and before `to`, whose word is at least `word`, or `to`. By the library's `partition_point` it was proved too,
-// and took 5 to 9 % more time.
+// The first place at or after `from`, and before `to`, whose word is at least `word`, or `to`. Two places, since building searches a part of a list
+// that is being written. By the library's `partition_point` it was proved too, and took 5 to 9 % more time: a slower call is a defect.
 pub fn lower(word_indices: &[u32], from: usize, to: usize, word: u32) -> usize
     requires { (from ≤ to) × (to ≤ length word_indices.now) × Rising word_indices.now from to }
     ensures place { result ≡ lower_in word_indices.now from to word }
@@ -253,10 +226,13 @@ pub fn lower(word_indices: &[u32], from: usize, to: usize, word: u32) -> usize
 impl<'a> Side<'a> {
     ghost use Rattle.side.specs.Views.{pairs, held};
 
+    #[tactic(auto, using(base::proofs::Lists::part_slice))]
     pub fn row(self, number: usize) -> RowWords<'a>
         requires { number < self.nrows }
         ensures wide { result.ncols ≡ self.entry.ncols }
         ensures long { length result.masks.now ≡ get_or self.entry.row_word_ptr.now (number + 1) 0 - get_or self.entry.row_word_ptr.now number 0 }
+        ensures words { result.word_indices.now ≡ slice (get_or self.entry.row_word_ptr.now number 0) (get_or self.entry.row_word_ptr.now (number + 1) 0) self.entry.word_indices.now }
+        ensures bits { result.masks.now ≡ slice (get_or self.entry.row_word_ptr.now number 0) (get_or self.entry.row_word_ptr.now (number + 1) 0) self.entry.masks.now }
         ensures columns { held result ≡ pairs self.entry number }
     {
         let from = self.row_word_ptr[number] as usize;
@@ -271,6 +247,20 @@ impl<'a> Side<'a> {
 
 impl RowWords<'_> {
     ghost use Rattle.side.specs.Views.{held};
+
+    // Where a word stands, or else where it would stand.
+    fn search(self, word: u32) -> Result<usize, usize>
+        ensures value { result ≡ search_in self.entry.word_indices.now (length self.entry.masks.now) word }
+        ensures found { IfOk result (λ k. (k < length self.entry.masks.now) × (get_or self.entry.word_indices.now k 0 ≡ word)) }
+        ensures missing { IfErr result (λ k. Lower self.entry.word_indices.now 0 (length self.entry.masks.now) word k × (k < length self.entry.masks.now → get_or self.entry.word_indices.now k 0 ≢ word)) }
+    {
+        let to = self.masks.len();
+        let at = lower(self.word_indices, 0, to, word);
+        if at < to && self.word_indices[at] == word {
+            return Ok(at);
+        }
+        Err(at)
+    }
 
     pub fn count(self) -> u64
         ensures { result ≡ length (words_of_row self.entry.ncols (held self.entry)) }
@@ -293,13 +283,10 @@ impl RowWords<'_> {
             return false;
         }
         let col = col as usize;
-        let word = (col / AbtmTopologyWord::BITS) as u32;
-        let to = self.masks.len();
-        let at = lower(self.word_indices, 0, to, word);
-        if at < to && self.word_indices[at] == word {
-            return self.masks[at] & (1u64 << (col % AbtmTopologyWord::BITS)) != 0;
+        match self.search((col / AbtmTopologyWord::BITS) as u32) {
+            Ok(at) => word::inner::bit(self.masks[at], col % AbtmTopologyWord::BITS),
+            Err(_) => false,
         }
-        false
     }
 
     // How many of its columns lie below `col`.
@@ -307,18 +294,16 @@ impl RowWords<'_> {
         requires { col ≤ self.ncols }
         ensures { result ≡ count_below col (held self.entry) }
     {
-        let word = (col / AbtmTopologyWord::BITS) as u32;
-        let to = self.masks.len();
-        let at = lower(self.word_indices, 0, to, word);
-        let before = count_bits(self.masks, 0, at) as u64;
-        if at < to && self.word_indices[at] == word {
-            let below = (1u64 << (col % AbtmTopologyWord::BITS)) - 1;
-            return before + (self.masks[at] & below).count_ones() as u64;
+        match self.search((col / AbtmTopologyWord::BITS) as u32) {
+            Ok(at) => {
+                let below = word::inner::rank(self.masks[at], col % AbtmTopologyWord::BITS);
+                count_bits(self.masks, 0, at) as u64 + below as u64
+            }
+            Err(at) => count_bits(self.masks, 0, at) as u64,
         }
-        before
     }
 
-    // The column that has `ordinal` columns before it, or none.
+    // The column that has `ordinal` columns before it, or none. The words are read by their positions in two lists, as `Side` says.
     pub fn select(self, ordinal: u64) -> Option<usize>
         ensures { result ≡ entry (members_below self.entry.ncols (held self.entry)) ordinal }
     {

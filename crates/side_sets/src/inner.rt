@@ -1,4 +1,4 @@
-// The work, for callers that have checked: no part of the API.
+// Two rows merged word by word, two sides merged row by row, for callers that have checked: no part of the API.
 ghost use Rattle.std.specs.Prelude.{◌≡◌, ◌+◌, ◌≤◌, ◌<◌, length};
 ghost use Rattle.base.specs.Lists.{over, over_with_zeros};
 ghost use Rattle.word.specs.Answers.{on};
@@ -41,10 +41,7 @@ fn take(words: &[u32], masks: &[u64], k: usize, word: u32) -> Taken
     requires { length words.now ≡ length masks.now }
     ensures { result ≡ taken_at words.now masks.now k (length words.now) word }
 {
-    if k >= words.len() {
-        return Taken { mask: 0, next: k };
-    }
-    if words[k] != word {
+    if k >= words.len() || words[k] != word {
         return Taken { mask: 0, next: k };
     }
     Taken {

@@ -1,12 +1,12 @@
 -- Laws of numbers: their digits one after the other, and what a number is once its first digit was looked at. Assumes nothing.
-use mathlib.Core.Path.{◌≡◌, refl, ap, ap₂, ◌∙◌}
-use mathlib.Core.Bool.{Bool, true, false, cond, not, ◌&&◌}
+use mathlib.Core.Path.{◌≡◌, refl, sym, ap, ap₂, ◌∙◌}
+use mathlib.Core.Bool.{Bool, true, false, cond, not, ◌&&◌, and-true}
 use mathlib.Core.List.{List, [], ◌∷◌, ◌++◌}
 use Prim.Native.Nat.{ℕ, ◌+◌, ◌-◌, ◌*◌, ◌≤◌, ◌<◌}
 use native.Mathlib.Nat.{le_refl, not-suc-le-zero}
 use native.Mathlib.Numerals.{add-one}
 use native.Mathlib.Omega.{arith}
-use borrow.Author.Tests.{eq-eqb, ne_eqb, lt-ltb, le-ltb, leb-true}
+use borrow.Author.Tests.{lt-ltb, le-ltb, leb-true}
 use lib.Dec.{eqb, ltb, leb}
 use lib.ListN.{length, get_or, take, drop, take-append-drop}
 use lib.Seq.{take-suc}
@@ -38,10 +38,10 @@ value-front v s n = omega (arith, value_grows (value_from v (take n s)) (drop n 
 
 -- ---- the first digit
 
-pub zero-leads : (s : List ℕ) → 1 < length s → get_or s 0 0 ≡ 48 → leading_zero s ≡ true
+pub zero-before : (s : List ℕ) → 1 < length s → eqb (get_or s 0 0) 48 ≡ leading_zero s
 unfolding leading_zero
-zero-leads [] h e = absurd (not-suc-le-zero h)
-zero-leads (d ∷ ds) h e = ap₂ ◌&&◌ (eq-eqb d 48 e) (lt-ltb 0 (length ds) (omega arith))
+zero-before [] h = absurd (not-suc-le-zero h)
+zero-before (d ∷ ds) h = sym (ap (λ (t : Bool). eqb d 48 && t) (lt-ltb 0 (length ds) (omega arith)) ∙ and-true (eqb d 48))
 
 module _ (most : ℕ) (s : List ℕ) where
   pub number-empty : length s ≡ 0 → is_number most s ≡ false
@@ -61,11 +61,6 @@ zero-alone (d ∷ ds) h = ap (λ (t : Bool). eqb d 48 && t) (le-ltb 0 (length ds
     none : (t : Bool) → (t && false) ≡ false
     none true = refl
     none false = refl
-
-pub no_zero : (s : List ℕ) → (get_or s 0 0 ≡ 48 → ⊥) → leading_zero s ≡ false
-unfolding leading_zero
-no_zero [] n = refl
-no_zero (d ∷ ds) n = ap (λ (t : Bool). t && ltb 0 (length ds)) (ne_eqb d 48 n)
 
 -- whether there is one, and which, 0 where there is none
 module _ (most : ℕ) (s : List ℕ) where

@@ -1,4 +1,4 @@
--- What a text says, by document 01: numbers have no leading zero, and a larger one than the most is none; lists use commas, an empty list is an
+-- What a text says: numbers have no leading zero, and a larger one than the most is none; lists use commas, an empty list is an
 -- empty value; a line has its key and ends in a newline.
 use Rattle.std.specs.Prelude.{Bool, false, not, cond, ◌&&◌, List, [], ◌∷◌, map, ℕ, zero, suc, ◌+◌, ◌-◌, ◌*◌, ◌≤◌, eqb, leb, ltb, length, take, drop}
 use Rattle.std.specs.Prelude.{Option}

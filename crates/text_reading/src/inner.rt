@@ -4,7 +4,7 @@ ghost use Rattle.std.specs.Bool.{then_some};
 ghost use Rattle.std.proofs.Common.{rules};
 ghost use Rattle.base.specs.Lists.{every, is_in, over};
 ghost use Rattle.text_writing.specs.Text.{newline};
-ghost use Rattle.text_reading.specs.Reading.{DigitFits, is_digit, value_from, number_read, before, behind, list_of, list_read, is_line, value_of, number_found, list_found};
+ghost use Rattle.text_reading.specs.Reading.{DigitFits, is_digit, value_from, leading_zero, number_read, before, behind, list_of, list_read, is_line, value_of, number_found, list_found};
 
 // How wide the numbers of a list are: the most that one holds, and a number up to it as one of them. `records::Element` has an `of` too, which takes
 // any number and makes floats too, which have no most; neither crate stands on the other. `base::Number` compares a number, and makes none.
@@ -81,19 +81,21 @@ fn read_digits(bytes: &[u8], most: u64) -> Option<u64>
     Some(value)
 }
 
-pub fn read_number(bytes: &[u8], most: u64) -> Option<u64>
-    requires { DigitFits most }
-    ensures { result ≡ number_read most bytes.now }
+// A zero with more behind it.
+fn has_leading_zero(bytes: &[u8]) -> bool
+    ensures { result ≡ leading_zero bytes.now }
 {
-    if bytes.len() == 0 {
+    1 < bytes.len() && bytes[0] == b'0'
+}
+
+// The number, if the bytes are one of that width: digits, one at least, no zero before others.
+pub fn read_number<T: Width>(bytes: &[u8]) -> Option<u64>
+    ensures { result ≡ number_read T.MOST bytes.now }
+{
+    if bytes.is_empty() || has_leading_zero(bytes) {
         return None;
     }
-    if bytes[0] == b'0' {
-        if 1 < bytes.len() {
-            return None;
-        }
-    }
-    read_digits(bytes, most)
+    read_digits(bytes, T::MOST)
 }
 
 // A store, where there is room. `at` is where the one number goes, and not how far the list is filled.
@@ -110,16 +112,18 @@ pub fn read_list<T: Width + Drop>(bytes: &[u8], list: &mut [T]) -> Option<usize>
     ensures count { result ≡ list_read T.MOST bytes.now }
     ensures list_after { list.new ≡ over (take (length list.old) (map T.made (list_of T.MOST bytes.now))) list.old }
 {
-    if bytes.len() == 0 {
+    if bytes.is_empty() {
         return Some(0);
     }
     let mut good = true;
-    // The fields are counted as they are read: their count is answered, and no iterator tells it behind the last without a pass of its own.
+    // The fields are counted as they are read: their count is answered, and no iterator tells it behind the last without a pass of its own. By `cut`,
+    // whose contract says which bytes a field has: of the parts of a `split` the library says how many there are and that none has a comma, and which
+    // bytes each has only step by step, by what the closure answers.
     let mut count: usize = 0;
     let mut left = Some(bytes);
     while let Some(part) = left {
         let (field, behind) = cut(part, b',');
-        let number = read_number(field, T::MOST);
+        let number = read_number::<T>(field);
         good &= number.is_some();
         store(list, count, T::of(number.unwrap_or(0)));
         count += 1;
@@ -128,7 +132,8 @@ pub fn read_list<T: Width + Drop>(bytes: &[u8], list: &mut [T]) -> Option<usize>
     good.then_some(count)
 }
 
-// The first line: whether it has the key and a newline, and in either case its value and the text behind it, since all is read.
+// The first line: whether it has the key and a newline, and in either case its value and the text behind it. A flag beside the value, and no `Option`
+// of it: a list takes the front of what the value says where the line is none, too.
 #[derive(Clone, Copy)]
 struct Line<'a> {
     good: bool,
@@ -161,14 +166,13 @@ fn read_line<'a>(text: &'a [u8], key: &[u8]) -> Line<'a>
     }
 }
 
-// The number of the first line, if it is a line of the key with one, and the text behind it.
-pub fn number_line<'a>(text: &'a [u8], key: &[u8], most: u64) -> (Option<u64>, &'a [u8])
-    requires { DigitFits most }
-    ensures number { result.0 ≡ number_found key.now most text.now }
+// The number of the first line, if it is a line of the key with one of that width, and the text behind it.
+pub fn number_line<'a, T: Width>(text: &'a [u8], key: &[u8]) -> (Option<u64>, &'a [u8])
+    ensures number { result.0 ≡ number_found key.now T.MOST text.now }
     ensures rest { result.1.now ≡ behind newline text.now }
 {
     let line = read_line(text, key);
-    line.holding(read_number(line.value, most))
+    line.holding(read_number::<T>(line.value))
 }
 
 // How many numbers the list of the first line has, if it is a line of the key with one, and the text behind it.

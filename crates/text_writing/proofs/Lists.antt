@@ -11,7 +11,7 @@ use Rattle.std.proofs.lemmas.List.Sums.{sum_by-cons}
 use Rattle.base.specs.Lists.{placed}
 use Rattle.base.proofs.Lists.{placed-none, placed-length, placed-more, placed-next}
 use Rattle.text_writing.specs.Text.{comma, newline, decimal, further, numbers, line}
-use Rattle.text_writing.proofs.Digits.{decimal-most}
+use Rattle.text_writing.proofs.Digits.{decimal-most, decimal-some}
 
 -- ---- a list
 
@@ -95,6 +95,17 @@ pub length-numbers : (xs : List ℕ) → length (numbers xs) ≡ sum_by (λ x. l
 unfolding numbers
 length-numbers [] = refl
 length-numbers (x ∷ xs) = omega (arith, length-further xs, length-append (decimal x) (further xs), sum_by-cons (λ x. length (decimal x)) x xs)
+
+-- a digit for each number at least
+further-least : (xs : List ℕ) → length xs ≤ length (further xs)
+unfolding further
+further-least [] = omega arith
+further-least (x ∷ xs) = omega (arith, further-least xs, length-append (decimal x) (further xs))
+
+pub numbers-least : (xs : List ℕ) → length xs ≤ length (numbers xs)
+unfolding numbers
+numbers-least [] = omega arith
+numbers-least (x ∷ xs) = omega (arith, further-least xs, decimal-some x, length-append (decimal x) (further xs))
 
 -- 21 bytes for each number at most
 further-most : (xs : List ℕ) → length (further xs) ≤ 21 * length xs

@@ -1,4 +1,4 @@
--- Numbers, lists and lines as bytes of text, by document 01: decimal, no leading zero; lists use commas, an empty list is an empty value; a line
+-- Numbers, lists and lines as bytes of text: decimal, no leading zero; lists use commas, an empty list is an empty value; a line
 -- is a key and its value, and ends in a newline.
 use Rattle.std.specs.Prelude.{cond, List, [], ◌∷◌, ◌++◌, ℕ, zero, suc, ◌+◌, ◌/◌, ◌%◌, ltb}
 

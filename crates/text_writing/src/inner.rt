@@ -1,25 +1,7 @@
 // Numbers, lists and lines as text: how long it is, and the text put into a lent list, behind what is written there.
-ghost use Rattle.std.specs.Prelude.{◌≡◌, ℕ, ◌+◌, ◌<◌, ◌≤◌, List, [], ◌∷◌, length};
+ghost use Rattle.std.specs.Prelude.{◌≡◌, ℕ, ◌+◌, ◌^◌, ◌<◌, ◌≤◌, List, [], ◌∷◌, length};
 ghost use Rattle.base.specs.Lists.{placed};
 ghost use Rattle.text_writing.specs.Text.{decimal, numbers, line};
-
-pub fn decimal_length(n: u64) -> usize
-    ensures { result ≡ length (decimal n) }
-{
-    n.checked_ilog10().unwrap_or(0) as usize + 1
-}
-
-// A number takes 20 bytes at most and its comma one, so that the sum fits.
-pub fn list_length(list: &[u32]) -> usize
-    requires { length list.now ≤ 16777216 }
-    ensures { result ≡ length (numbers list.now) }
-{
-    let mut digits = 0;
-    for x in list {
-        digits += decimal_length(*x as u64);
-    }
-    digits + list.len().saturating_sub(1)
-}
 
 // A lent list of bytes, and how many of them are written: there is no heap, and so no text that grows.
 #[derive(Drop)]
@@ -28,10 +10,14 @@ pub struct Output<'a> {
     pub len: usize,
 }
 
-// What a value is as text, and the text put behind what is written. The list is still the caller's (`same_reference`), so that a caller knows what
-// became of its own.
+// What a value is as text, how long that is, and the text put behind what is written. The list is still the caller's (`same_reference`), so that a
+// caller knows what became of its own.
 pub trait Text {
     ghost text: { Self → List ℕ };
+
+    fn length(self) -> usize
+        requires { length (text self) < 2 ^ 32 }
+        ensures { result ≡ length (text self) };
 
     fn put(self, out: &mut Output<'_>)
         requires { out.old.len + length (text self) ≤ length out.old.bytes.now }
@@ -43,6 +29,12 @@ pub trait Text {
 impl Text for &[u8] {
     ghost text = { λ bytes. bytes.now };
 
+    fn length(self) -> usize
+        ensures { result ≡ length self.now }
+    {
+        self.len()
+    }
+
     fn put(self, out: &mut Output<'_>) {
         let end = out.len + self.len();
         out.bytes[out.len..end].copy_from_slice(self);
@@ -53,10 +45,16 @@ impl Text for &[u8] {
 impl Text for u64 {
     ghost text = { decimal };
 
+    fn length(self) -> usize
+        ensures { result ≡ length (decimal self) }
+    {
+        self.checked_ilog10().unwrap_or(0) as usize + 1
+    }
+
     // The last digit first, from the end down, by its place, of which the promise speaks. By hand: formatting goes by `fmt::Write`, whose writes
     // may fail.
     fn put(self, out: &mut Output<'_>) {
-        let end = out.len + decimal_length(self);
+        let end = out.len + self.length();
         let mut left = self;
         for place in (out.len..end).rev() {
             out.bytes[place] = b'0' + (left % 10) as u8;
@@ -68,6 +66,11 @@ impl Text for u64 {
 
 impl Text for &[u32] {
     ghost text = { λ list. numbers list.now };
+
+    fn length(self) -> usize {
+        let digits: usize = self.iter().map(|x| (*x as u64).length()).sum();
+        digits + self.len().saturating_sub(1)
+    }
 
     fn put(self, out: &mut Output<'_>) {
         let Some((first, rest)) = self.split_first() else {
@@ -90,6 +93,16 @@ fn put_byte(byte: u8, out: &mut Output<'_>)
 {
     out.bytes[out.len] = byte;
     out.len += 1;
+}
+
+// How many bytes `put_line` puts.
+#[tactic(auto, using(crate::proofs::Lists::sums))]
+pub fn line_length<T: Text>(key: &[u8], value: T) -> usize
+    requires { length (line key.now (T.text value)) < 2 ^ 32 }
+    ensures value { result ≡ length (line key.now (T.text value)) }
+    ensures bound { result < 2 ^ 32 }
+{
+    key.len() + value.length() + 1
 }
 
 #[tactic(auto, using(crate::proofs::Lists::sums))]

@@ -8,6 +8,10 @@ use Rattle.topology.specs.declared.AbtmTopologyStats.{AbtmTopologyStats}
 abbrev pub bytes_of : List ℕ → List ℕ → List ℕ → ℕ
 bytes_of ptr idx masks = 4 * length ptr + 4 * length idx + 8 * length masks
 
+-- the same by the counts of its rows and words: one pointer more than rows, a number and a mask for each word
+abbrev pub bytes_counted : ℕ → ℕ → ℕ
+bytes_counted nrows words = 4 * (nrows + 1) + 4 * words + 8 * words
+
 abbrev pub stats_of : ℕ → ℕ → List ℕ → List ℕ → List ℕ → ℕ → AbtmTopologyStats
 stats_of nrows ncols ptr idx masks pairs =
     record { nrows = nrows; ncols = ncols; structural_nnz = pairs; nonempty_words = length masks; metadata_bytes = bytes_of ptr idx masks }

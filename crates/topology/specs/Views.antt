@@ -1,9 +1,15 @@
--- The checks of the calls on matrices and sides as they are lent.
-use Rattle.std.specs.Prelude.{List, ℕ}
+-- What is said of the calls on matrices and sides as they are lent.
+use Rattle.std.specs.Prelude.{List, ℕ, Result}
 use Rattle.base.specs.Checks.{Check}
+use Rattle.base.specs.declared.Refusal.{Refusal}
 use Rattle.csr32.specs.declared.Csr32Matrix.{Csr32Matrix}
 use Rattle.side.specs.declared.AbtmTopology.{AbtmTopology}
-use Rattle.topology.specs.Answers.{build_check, sets_check}
+use Rattle.topology.specs.declared.AbtmTopologyStats.{AbtmTopologyStats}
+use Rattle.topology.specs.Answers.{stats_answer, build_check, sets_check}
+
+-- the side; its statistics
+abbrev pub answer_stats : AbtmTopology → Result AbtmTopologyStats Refusal
+answer_stats t = stats_answer t.nrows t.ncols t.row_word_ptr.now t.word_indices.now t.masks.now t.structural_nnz
 
 -- from_csr32, with the lengths of the three lists
 abbrev pub check_build : Csr32Matrix → List ℕ → List ℕ → List ℕ → Check

@@ -8,8 +8,8 @@ ghost use Rattle.side.specs.Views.{holds};
 ghost use Rattle.side.specs.Built.{built_ptr, built_words, built_masks};
 ghost use Rattle.side_sets.specs.Sets.{pairwise_pairs};
 ghost use Rattle.topology.specs.Statistics.{average_nnz_of_word, fill_ratio_of_words, bytes_per_nnz};
-ghost use Rattle.topology.specs.Answers.{built_answer, stats_answer};
-ghost use Rattle.topology.specs.Views.{check_build, check_sets};
+ghost use Rattle.topology.specs.Answers.{built_answer};
+ghost use Rattle.topology.specs.Views.{answer_stats, check_build, check_sets};
 
 use base::Refusal;
 use csr32::Csr32Matrix;
@@ -48,8 +48,9 @@ impl AbtmTopologyStats {
     }
 }
 
+#[tactic(auto, using(base::proofs::Checks::checks))]
 pub fn stats(topology: AbtmTopology) -> Result<AbtmTopologyStats, Refusal>
-    ensures { result ≡ stats_answer topology.entry.nrows topology.entry.ncols topology.entry.row_word_ptr.now topology.entry.word_indices.now topology.entry.masks.now topology.entry.structural_nnz }
+    ensures { result ≡ answer_stats topology.entry }
 {
     topology.validate()?;
     Ok(AbtmTopologyStats {
@@ -57,14 +58,13 @@ pub fn stats(topology: AbtmTopology) -> Result<AbtmTopologyStats, Refusal>
         ncols: topology.ncols as u32,
         structural_nnz: topology.structural_nnz as u32,
         nonempty_words: topology.masks.len() as u32,
-        metadata_bytes: (4 * topology.row_word_ptr.len()
-            + 4 * topology.word_indices.len()
-            + 8 * topology.masks.len()) as u32,
+        metadata_bytes: inner::metadata_bytes(topology.nrows, topology.masks.len() as u64),
     })
 }
 
 // The side of the matrix's pairs; an entry that repeats is one pair. Lists that are written are handed in one by one: each has an equation, and in a
 // struct behind `&mut` each contract would say besides that the references stay.
+#[tactic(auto, using(base::proofs::Checks::checks), unfolding(crate::specs::Answers::build_check))]
 pub fn from_csr32(
     matrix: Csr32Matrix,
     row_word_ptr: &mut [u32],
@@ -88,6 +88,7 @@ pub fn from_csr32(
 }
 
 // The pairs that the operation takes of those of both sides; as many words as both have together are needed.
+#[tactic(auto, using(base::proofs::Checks::checks), unfolding(crate::specs::Answers::sets_check))]
 pub fn combine(
     a: AbtmTopology,
     b: AbtmTopology,
@@ -103,10 +104,7 @@ pub fn combine(
 {
     let left = a.accept()?;
     let right = b.accept()?;
-    if b.nrows != a.nrows {
-        return Err(Refusal::SidesDiffer);
-    }
-    if b.ncols != a.ncols {
+    if b.nrows != a.nrows || b.ncols != a.ncols {
         return Err(Refusal::SidesDiffer);
     }
     side::inner::check_room(

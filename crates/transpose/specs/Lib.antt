@@ -1,2 +1,3 @@
 pub mod Transpose
 pub mod Places
+pub mod Views

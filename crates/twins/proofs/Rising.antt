@@ -1,10 +1,21 @@
 -- Keys that rise, each above the one before it, are all different. Assumes nothing.
-use Rattle.std.proofs.Common.{◌≡◌, refl, sym, true, true≢false, ℕ, zero, suc, ◌+◌, ◌<◌, ◌-◌, arith}
+use Rattle.std.proofs.Common.{◌≡◌, ◌≢◌, refl, sym, ap, ◌∙◌, true, false, true≢false, ℕ, zero, suc, ◌+◌, ◌<◌, ◌-◌, arith}
 use Rattle.std.specs.Ordering.{is_lt}
 use Rattle.std.specs.Cmp.{IsTotalOrder}
 use Rattle.std.specs.declared.cmp.Ordering.{Ordering}
 use Rattle.std.specs.declared.cmp.Ordering.TheVariants.{Less, Equal, Greater}
 use Rattle.std.proofs.lemmas.Cmp.{tied_itself}
+use Rattle.base.proofs.Sets.{any_none}
+use Rattle.twins.specs.declared.keys.Key.{Key}
+use Rattle.twins.specs.declared.keys.Keys.{Keys}
+use Rattle.twins.specs.Keys.{key_at, alike, repeated}
+use Rattle.twins.proofs.Twins.{one-key}
+
+-- A key above one that no earlier key is above repeats none of them, by either order: `of` is the key as the order takes it.
+pub skip : {K : Type 0} (cmp : K → K → Ordering) (of : Key → K) (keys : Keys) (top b : ℕ) → ((a : ℕ) → a < b → cmp (of (key_at keys a)) (of (key_at keys top)) ≢ Greater)
+    → cmp (of (key_at keys b)) (of (key_at keys top)) ≡ Greater → repeated keys b ≡ false
+skip cmp of keys top b highest above =
+    any_none b (λ a. alike keys a b) (λ a l t. highest a l (ap (λ k. cmp (of k) (of (key_at keys top))) (one-key keys a b t) ∙ above))
 
 pub less : (o : Ordering) → is_lt o ≡ true → o ≡ Less
 less Less e = refl

@@ -1,5 +1,5 @@
 -- Blocks with one key, and the first that repeats the key of an earlier one. Assumes nothing.
-use Rattle.std.proofs.Common.{◌≡◌, refl, sym, ap, ap₂, ◌∙◌, subst, ◌⊎◌, inl, inr, Bool, ◌&&◌, ◌||◌, ℕ, zero, suc, ◌+◌, ◌/◌, ◌^◌, ◌≤◌, ◌<◌, get_or, zero-add, add_assoc, arith}
+use Rattle.std.proofs.Common.{◌≡◌, refl, sym, ap, ap₂, ◌∙◌, subst, ◌⊎◌, inl, inr, Bool, true, false, ◌&&◌, ◌||◌, ℕ, zero, suc, ◌+◌, ◌/◌, ◌^◌, ◌≤◌, ◌<◌, get_or, zero-add, add_assoc, arith}
 use Rattle.std.proofs.Math.Bool.{and_assoc}
 use Rattle.std.proofs.Math.Nat.{lt_of_le_of_lt}
 use Rattle.std.specs.List.{list_any, range_with_len}
@@ -10,7 +10,7 @@ use Rattle.base.proofs.Bools.{and_l, and_r, T_of, not-T-of, lt-or-le}
 use Rattle.base.proofs.Sets.{None, First, any-cong, any_append, first-is, first-none, first-at}
 use Rattle.twins.specs.declared.keys.Key.{Key}
 use Rattle.twins.specs.declared.keys.Keys.{Keys}
-use Rattle.twins.specs.Keys.{same_key, key_at, alike, repeated, lowest_twin, spread_of, Twin}
+use Rattle.twins.specs.Keys.{same_key, key_at, alike, repeated, lowest_twin, spread_of, class_at, Twin}
 
 -- a search of a range
 any-from : (p : ℕ → Bool) (a n : ℕ) → list_any p (range_with_len a n) ≡ any_below n (λ i. p (a + i))
@@ -52,6 +52,22 @@ module _ (keys : Keys) where
   -- what the first twin is
   pub twin-is : (count twin : ℕ) → twin ≡ lowest_twin keys count → First count (repeated keys) twin
   twin-is count twin e = subst (First count (repeated keys)) (sym e) (first-at count (repeated keys))
+
+  -- one class more: what the search of each class adds
+  pub twin-next : (last class count twin r : ℕ) → Twin keys last 0 class count twin → Twin keys last class (class + 1) twin r → Twin keys last 0 (class + 1) count r
+  twin-next last class count twin r old new = record {
+    within = omega (arith, old.within, new.within);
+    none = λ b l f u. none b l u (lt-or-le (class_at keys last b) class);
+    twice = λ l. twice l (lt-or-le r twin);
+  }
+    where
+      none : (b : ℕ) → b < r → class_at keys last b < class + 1 → (class_at keys last b < class) ⊎ (class ≤ class_at keys last b) → repeated keys b ≡ false
+      none b l u (inl h) = old.none b (omega (arith, new.within)) (omega arith) h
+      none b l u (inr h) = new.none b l h u
+
+      twice : r < count → (r < twin) ⊎ (twin ≤ r) → repeated keys r ≡ true
+      twice l (inl h) = new.twice h
+      twice l (inr h) = let e : r ≡ twin = omega (arith, new.within) in ap (repeated keys) e ∙ old.twice (omega arith)
 
   -- all classes: the first twin
   pub twin-first : (last class count twin : ℕ) → last < class → Twin keys last 0 class count twin → twin ≡ lowest_twin keys count

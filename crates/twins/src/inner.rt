@@ -3,8 +3,8 @@ ghost use Rattle.std.specs.Prelude.{◌≡◌, ◌+◌, ◌≤◌, length};
 ghost use Rattle.base.specs.Checks.{side_limit};
 ghost use Rattle.twins.specs.Keys.{lowest_twin, Twin};
 
-use crate::keys::Key;
 pub use crate::keys::Keys;
+use crate::keys::{Front, Key};
 use crate::orders::{self, ByField};
 use crate::table::{self, Class};
 
@@ -19,43 +19,41 @@ fn last_class(count: usize) -> u64
 // The first block of the class that repeats a key, by a table of N slots: the homes are up to `last_slot`, the rest is room after them. An array:
 // no heap. It is no part of its caller: the arrays of all three would stand on the stack of every check of a layout.
 #[inline(never)]
-fn first_in_table<const N: usize>(keys: Keys, class: Class, last_slot: u64, count: usize) -> usize
-    requires { (N ≤ 33024) × (count ≤ length keys.kinds.now) × (count ≤ side_limit + 1) }
-    ensures { Twin keys.entry class.last class.number (class.number + 1) count result }
+fn first_in_table<const N: usize>(front: Front, class: Class, last_slot: u64) -> usize
+    requires { N ≤ 33024 }
+    ensures { Twin front.entry.keys class.last class.number (class.number + 1) front.entry.count result }
 {
     let mut table = [0u32; N];
-    table::first_met(keys, class, last_slot, &mut table, count)
+    table::first_met(front, class, last_slot, &mut table)
 }
 
 // To clear the large table would cost a small layout more than its blocks do.
-fn first_in_class(keys: Keys, class: Class, count: usize) -> usize
-    requires { (count ≤ length keys.kinds.now) × (count ≤ side_limit + 1) }
-    ensures { Twin keys.entry class.last class.number (class.number + 1) count result }
+fn first_in_class(front: Front, class: Class) -> usize
+    ensures { Twin front.entry.keys class.last class.number (class.number + 1) front.entry.count result }
 {
-    if count <= 64 {
-        first_in_table::<192>(keys, class, 127, count)
-    } else if count <= 1344 {
-        first_in_table::<2304>(keys, class, 2047, count)
+    if front.count <= 64 {
+        first_in_table::<192>(front, class, 127)
+    } else if front.count <= 1344 {
+        first_in_table::<2304>(front, class, 2047)
     } else {
-        first_in_table::<33024>(keys, class, 32767, count)
+        first_in_table::<33024>(front, class, 32767)
     }
 }
 
 // The first of the blocks that repeats the key of an earlier one, or `count`. Blocks in a rising order need no table. Where there is none, each
 // search answers how many blocks it was asked of, and so bounds the search of the next class: an Option would be turned into that number at each.
-// `count` stands beside the keys in every function: keys cut to the first blocks would be three lists cut, and what is promised is said of the
-// whole lists.
 pub fn first_twin(keys: Keys, count: usize) -> usize
     requires { (count ≤ length keys.kinds.now) × (count ≤ side_limit + 1) }
     ensures { result ≡ lowest_twin keys.entry count }
 {
-    if orders::rises::<Key>(keys, count) || orders::rises::<ByField>(keys, count) {
+    let all = Front { keys, count };
+    if orders::rises::<Key>(all) || orders::rises::<ByField>(all) {
         return count;
     }
     let last = last_class(count);
     let mut twin = count;
     for number in 0..last + 1 {
-        twin = first_in_class(keys, Class { last, number }, twin);
+        twin = first_in_class(Front { keys, count: twin }, Class { last, number });
     }
     twin
 }

@@ -1,5 +1,6 @@
 // Keys: a block's kind, id and field.
-ghost use Rattle.std.specs.Prelude.{◌≡◌, ◌<◌, length};
+ghost use Rattle.std.specs.Prelude.{◌≡◌, ◌+◌, ◌<◌, ◌≤◌, length};
+ghost use Rattle.base.specs.Checks.{side_limit};
 
 // In the order of its fields, as a station lists peak after peak. The kind is a number: twins are searched before the kinds are tested.
 #[derive(Clone, Copy, PartialEq, Eq, PartialOrd, Ord)]
@@ -17,6 +18,15 @@ pub struct Keys<'a> {
     pub fields: &'a [u32],
     ghost ids_length: { length ids.now ≡ length kinds.now },
     ghost fields_length: { length fields.now ≡ length kinds.now },
+}
+
+// The keys of the first blocks. Keys cut to them would be three lists cut, and what is promised is said of the whole lists.
+#[derive(Clone, Copy)]
+pub(crate) struct Front<'a> {
+    pub keys: Keys<'a>,
+    pub count: usize,
+    ghost within: { count ≤ length keys.kinds.now },
+    ghost few: { count ≤ side_limit + 1 },
 }
 
 impl Keys<'_> {

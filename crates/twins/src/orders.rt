@@ -1,10 +1,10 @@
 // Keys that rise have no twins, in one of two orders: by kind, id, field, as a station lists peak after peak, or by field, kind, id, as it
 // lists field after field.
-ghost use Rattle.std.specs.Prelude.{◌≡◌, ◌<◌, ◌≤◌, true, length};
+ghost use Rattle.std.specs.Prelude.{◌≡◌, ◌<◌, true, length};
 ghost use Rattle.twins.specs.declared.keys.Key.{Key};
 ghost use Rattle.twins.specs.Keys.{lowest_twin};
 
-use crate::keys::{Key, Keys};
+use crate::keys::{Front, Key};
 
 // A key as one of the orders takes it. Not by `From<Key>`: that is a relation, and does not say that equal keys are taken alike.
 pub(crate) trait Ordered: Ord + Copy {
@@ -41,12 +41,12 @@ impl Ordered for ByField {
     }
 }
 
-// Each of the first blocks is above the one before it.
-pub(crate) fn rises<K: Ordered>(keys: Keys, count: usize) -> bool
-    requires { count ≤ length keys.kinds.now }
-    ensures { result ≡ true → lowest_twin keys.entry count ≡ count }
+// Each of the blocks is above the one before it.
+pub(crate) fn rises<K: Ordered>(front: Front) -> bool
+    ensures { result ≡ true → lowest_twin front.entry.keys front.entry.count ≡ front.entry.count }
 {
-    (1..count).all(
+    let keys = front.keys;
+    (1..front.count).all(
         |b|
             requires { (0 < b) × (b < length keys.kinds.now) }
         { K::of(keys.at(b - 1)) < K::of(keys.at(b)) },

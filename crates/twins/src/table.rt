@@ -5,7 +5,7 @@ ghost use Rattle.std.specs.Prelude.{◌≡◌, false, ◌&&◌, ◌+◌, ◌<◌
 ghost use Rattle.base.specs.Checks.{side_limit};
 ghost use Rattle.twins.specs.Keys.{repeated, spread_of, class_at, Table, Twin};
 
-use crate::keys::{Key, Keys};
+use crate::keys::{Front, Key, Keys};
 
 // A class of keys, one of those numbered from 0 to `last`. `last` is one less than a power of two.
 #[derive(Clone, Copy)]
@@ -50,22 +50,16 @@ fn meets(keys: Keys, class: Class, last_slot: u64, table: &mut [u32], b: usize) 
     keys.found_before(b)
 }
 
-// The first block of the class that repeats a key, or `count`. `table` is scratch, all zero: each step writes it, and a closure of `find` would have
-// to say what it holds.
-pub(crate) fn first_met(
-    keys: Keys,
-    class: Class,
-    last_slot: u64,
-    table: &mut [u32],
-    count: usize,
-) -> usize
-    requires { (count ≤ length keys.kinds.now) × (count ≤ side_limit + 1) × Table keys table.old class.last class.number last_slot 0 }
-    ensures { Twin keys.entry class.last class.number (class.number + 1) count result }
+// The first block of the class that repeats a key, or how many blocks there are. `table` is scratch, all zero: each step writes it, and a closure of
+// `find` would have to say what it holds.
+pub(crate) fn first_met(front: Front, class: Class, last_slot: u64, table: &mut [u32]) -> usize
+    requires { Table front.keys table.old class.last class.number last_slot 0 }
+    ensures { Twin front.entry.keys class.last class.number (class.number + 1) front.entry.count result }
 {
-    for b in 0..count {
-        if meets(keys, class, last_slot, table, b) {
+    for b in 0..front.count {
+        if meets(front.keys, class, last_slot, table, b) {
             return b;
         }
     }
-    count
+    front.count
 }

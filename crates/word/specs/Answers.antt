@@ -1,4 +1,4 @@
--- What the word's methods answer, by document 01's section 'Masks, words, blocks'.
+-- What the word's methods answer.
 use Rattle.std.specs.Prelude.{Bool, not, cond, ◌&&◌, ◌||◌, List, [], ◌∷◌, ℕ, zero, suc, ltb, leb}
 use Rattle.std.specs.Prelude.{Result, Option, Some, None}
 use Rattle.base.specs.Checks.{answer}

@@ -1,7 +1,23 @@
-// The walk over a word's set bits, for the crates above: no part of the API.
-ghost use Rattle.std.specs.Prelude.{◌≡◌};
+// A word's bits, for the crates above, where a place is known to be below 64: no part of the API.
+ghost use Rattle.std.specs.Prelude.{◌≡◌, ◌<◌};
 ghost use Rattle.std.specs.Iterator.{YieldsFirst, item_count};
-ghost use Rattle.word.specs.Bits.{set_bits};
+ghost use Rattle.base.specs.Sets.{count_below};
+ghost use Rattle.word.specs.Bits.{bit_at, set_bits};
+
+pub fn bit(word: u64, place: usize) -> bool
+    requires { place < 64 }
+    ensures { result ≡ bit_at word place }
+{
+    word & (1u64 << place) != 0
+}
+
+// How many bits are set below the place.
+pub fn rank(word: u64, place: usize) -> u32
+    requires { place < 64 }
+    ensures { result ≡ count_below place (bit_at word) }
+{
+    (word & ((1u64 << place) - 1)).count_ones()
+}
 
 // The set bits that are left, from the lowest on.
 #[derive(Drop)]

@@ -11,8 +11,8 @@ use base::Refusal;
 
 pub mod inner;
 
-// An operation on two words, bit by bit. Which of the four it is, a caller says as data: the contract of a closure in its place would have to say that
-// it acts bit by bit.
+// An operation on two words, bit by bit. Which of the four it is, a caller says as data: the contract of a closure in its place would have to say
+// that it acts bit by bit.
 #[derive(Clone, Copy)]
 pub enum Operation {
     Union,
@@ -76,7 +76,7 @@ impl AbtmTopologyWord {
     pub fn contains_offset(self, offset: usize) -> bool
         ensures { result ≡ contains_answer self.mask offset }
     {
-        offset < Self::BITS && self.mask & (1u64 << offset) != 0
+        offset < Self::BITS && inner::bit(self.mask, offset)
     }
 
     pub fn rank(self, offset: usize) -> Result<usize, Refusal>
@@ -88,8 +88,7 @@ impl AbtmTopologyWord {
         if offset == Self::BITS {
             return Ok(self.popcount());
         }
-        let below = (1u64 << offset) - 1;
-        Ok((self.mask & below).count_ones() as usize)
+        Ok(inner::rank(self.mask, offset) as usize)
     }
 
     pub fn select(self, ordinal: usize) -> Option<usize>

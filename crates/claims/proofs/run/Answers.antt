@@ -18,7 +18,13 @@ grow-ran-requires g c =
     let a = accepted-field-run _ _ _ _ (sym c.check.ensures ∙ c.in_ok-check.was) in
     let b = accepted-sides (check_topology c.args.topology) c.args.topology.rows.nrows c.args.topology.rows.ncols c.args.matrix.nrows c.args.matrix.ncols a.1 in
     let d = accepted-arrays c.args.topology.rows.nrows c.args.len c.args.seeds.now (holds c.args.topology.rows) (stores c.args.matrix) c.args.hops.now c.args.rooms.now a.3 in
-    (b.topology_ok, b.square, a.2, d.mask, d.one_each)
+    (b.topology_ok, b.square, a.2, d.mask)
+
+pub invariant_of-asked : goal.invariant_of-asked
+invariant_of-asked g c =
+    let a = accepted-field-run _ _ _ _ (sym c.check.ensures ∙ c.in_ok-check.was) in
+    let d = accepted-arrays c.args.topology.rows.nrows c.args.len c.args.seeds.now (holds c.args.topology.rows) (stores c.args.matrix) c.args.hops.now c.args.rooms.now a.3 in
+    record { one_each = d.one_each }
 
 pub returns-in_err-check : goal.returns-in_err-check
 returns-in_err-check g c =

@@ -15,13 +15,9 @@ use Rattle.field_region.proofs.close_to_field_blocks.Goals as goal
 same : (c : In_ok-layout) → c.in_ok-layout.layout.components.now ≡ c.args.layout.blocks.components.now
 same c = ap (λ x. x.now) c.in_ok-layout.ensures.accepted.2.0
 
-pub returns-in_err-layout : goal.returns-in_err-layout
+pub returns-in_err-layout-clause-value : goal.returns-in_err-layout-clause-value
 unfolding close_check
-returns-in_err-layout c =
-    let e = sym (group-stop _ _ _ c.in_err-layout.ensures.refused) in record {
-      value = handed _ _ c.from_residual.ensures.1 ∙ on-refused _ _ _ Err e;
-      out_after = kept _ _ _ _ e;
-    }
+returns-in_err-layout-clause-value c = handed _ _ c.from_residual.ensures.1 ∙ on-refused _ _ _ Err (sym (group-stop _ _ _ c.in_err-layout.ensures.refused))
 
 pub accept_of-requires : goal.accept_of-requires
 accept_of-requires c = rw (sym c.total.ensures) at c.in_ok-layout.layout.few

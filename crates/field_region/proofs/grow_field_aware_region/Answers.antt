@@ -24,15 +24,9 @@ sized c = c.in_ok-layout.ensures.accepted.1
 fits : (c : In_ok-layout) → c.in_ok-topology.topology.rows.nrows ≡ total_of c.in_ok-layout.layout.components.now
 fits c = sized c ∙ sym (ap (λ x. total_of x.now) c.in_ok-layout.ensures.accepted.3.0)
 
-pub returns-in_err-topology : goal.returns-in_err-topology
+pub returns-in_err-topology-clause-value : goal.returns-in_err-topology-clause-value
 unfolding field_grow_check
-returns-in_err-topology c =
-    let e = sym (group-stop _ _ _ c.in_err-topology.ensures.refused) in record {
-      value = handed _ _ c.from_residual.ensures.1 ∙ on-refused _ _ _ Err e;
-      inside = kept _ _ _ _ e;
-      edge = kept _ _ _ _ e;
-      spent = kept _ _ _ _ e;
-    }
+returns-in_err-topology-clause-value c = handed _ _ c.from_residual.ensures.1 ∙ on-refused _ _ _ Err (sym (group-stop _ _ _ c.in_err-topology.ensures.refused))
 
 pub returns-in_err-layout : goal.returns-in_err-layout
 unfolding field_grow_check

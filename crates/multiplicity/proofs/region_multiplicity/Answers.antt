@@ -1,5 +1,5 @@
 -- `multiplicity::region_multiplicity` meets its contract. Assumes nothing.
-use Rattle.std.proofs.Common.{◌≡◌, refl, sym, ap, ap₂, ◌∙◌, subst, List, ◌++◌, ℕ, ◌≤◌, ◌<◌, arith, length, get_or, take, drop, le-leb, length-take-le, length-append}
+use Rattle.std.proofs.Common.{◌≡◌, refl, sym, ap, ◌∙◌, subst, List, ◌++◌, ℕ, ◌≤◌, ◌<◌, arith, length, get_or, take, drop, le-leb, length-take-le, length-append}
 use Rattle.std.proofs.lemmas.Bool.{lt-leb}
 use Rattle.std.specs.Prelude.{Ok, Err}
 use Rattle.base.specs.Lists.{list_from, over}
@@ -7,8 +7,8 @@ use Rattle.base.proofs.Checks.{handed, group-pass, group-stop, last-pass, last-s
 use Rattle.base.proofs.Lists.{length-list_from, part_left}
 use Rattle.multiplicity.specs.Multiplicity.{multiplicity_of, multiplicity_check, multiplicity_stats}
 use Rattle.multiplicity.specs.Views.{multiplicity_at}
-use Rattle.multiplicity.proofs.Counts.{mults-le, mults-front, mults-stats}
-use Rattle.multiplicity.proofs.region_multiplicity.Goals.{After-count, In_ok-regions}
+use Rattle.multiplicity.proofs.Counts.{as-lent, mults-le, mults-front, mults-stats}
+use Rattle.multiplicity.proofs.region_multiplicity.Goals.{After-count}
 use Rattle.multiplicity.proofs.region_multiplicity.Goals as goal
 
 pub returns-in_err-regions : goal.returns-in_err-regions
@@ -28,13 +28,6 @@ returns-then-need-counts c =
       value = on-refused _ _ _ Err e;
       counts_after = kept _ _ _ _ e;
     }
-
--- a function of the accepted regions is one of those that are lent
-same : {A : Type 0} (f : ℕ → ℕ → List ℕ → A) (c : In_ok-regions)
-    → f c.in_ok-regions.regions.node_count c.in_ok-regions.regions.region_count c.in_ok-regions.regions.words.now ≡ f c.args.regions.node_count c.args.regions.region_count c.args.regions.words.now
-same f c =
-    let a = c.in_ok-regions.ensures.accepted.1 in
-    ap₂ (λ n k. f n k c.in_ok-regions.regions.words.now) a.0 a.1 ∙ ap (λ w. f c.args.regions.node_count c.args.regions.region_count w.now) a.2
 
 pub count-requires : goal.count-requires
 count-requires c = length-take-le _ _ c.if-need-counts.false
@@ -71,7 +64,7 @@ returns c =
     let p = last-pass _ _ _ (le-leb _ _ (subst (λ (n : ℕ). n ≤ length c.args.counts.now) a.1.0 c.if-need-counts.false)) refl in
     let e = sym (group-pass _ _ _ a.0 p) in record {
       value = on-accepted _ _ _ _ e
-          (ap Ok (c.tally.ensures ∙ mults-stats r.node_count r.words.now r.region_count _ (front at.After-count) ∙ same (λ n k w. multiplicity_stats n k (multiplicity_of n k w)) at.In_ok-regions));
+          (ap Ok (c.tally.ensures ∙ mults-stats r.node_count r.words.now r.region_count _ (front at.After-count) ∙ as-lent (λ n k w. multiplicity_stats n k (multiplicity_of n k w)) _ r a.1));
       counts_after = on-accepted _ _ _ _ e
-          (part_left _ _ _ _ c.count.ensures (sym (length-list_from (multiplicity_at r) r.node_count 0)) ∙ same (λ n k w. over (list_from (multiplicity_of n k w) n 0) c.args.counts.now) at.In_ok-regions);
+          (part_left _ _ _ _ c.count.ensures (sym (length-list_from (multiplicity_at r) r.node_count 0)) ∙ as-lent (λ n k w. over (list_from (multiplicity_of n k w) n 0) c.args.counts.now) _ r a.1);
     }

@@ -65,7 +65,7 @@ module _ (s : Start) where
 
   stops-alike : (r : Refusal) → check_matrix s.args.matrix ≡ Ok tt → alike s ≡ Err r → whole s ≡ Err r
   unfolding region_check
-  stops-alike r a e = stops-regional r a (sym (group-stop _ _ _ e))
+  stops-alike r a e = stops-regional r a (sym (group-stop _ _ _ (sym (group-stop _ _ _ e))))
 
 -- matrix and topology are accepted: whether they are alike is asked of what was accepted
 module _ (c : After-check_sides) where

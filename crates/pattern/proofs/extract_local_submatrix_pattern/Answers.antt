@@ -60,7 +60,7 @@ module _ (c : After-check_room) where
   by-counts =
       c.check_room.ensures
       ∙ room_is l.region.len (nodes l.region) (pairs l.rows) c.args.global_nodes.now c.args.row_ptr.now c.args.col_idx.now _ _
-      (ap (λ (k : RegionKept). k.members) c.count-kept.ensures) (ap (λ (k : RegionKept). k.kept) c.count-kept.ensures)
+      (ap (λ (k : RegionKept). k.members) c.count-kept.ensures) (ap (λ (k : RegionKept). k.rows.kept) c.count-kept.ensures)
 
   decided : room (goal.at.After-check_room c).Start ≡ c.check_room.result
   decided =
@@ -84,7 +84,7 @@ stats-requires c =
 pub returns-in_err-topology : goal.returns-in_err-topology
 unfolding pattern_check region_check
 returns-in_err-topology c =
-    let e : whole (goal.at.returns-in_err-topology c).Start ≡ Err _ = sym (group-stop _ (room (goal.at.returns-in_err-topology c).Start) _ (sym (group-stop _ _ _ c.in_err-topology.ensures.refused))) in record {
+    let e : whole (goal.at.returns-in_err-topology c).Start ≡ Err _ = sym (group-stop _ (room (goal.at.returns-in_err-topology c).Start) _ (sym (group-stop _ _ _ (sym (group-stop _ _ _ c.in_err-topology.ensures.refused))))) in record {
       value = handed _ _ c.from_residual.ensures.1 ∙ on-refused _ _ _ Err e;
       members = kept _ _ _ _ e;
       pointers = kept _ _ _ _ e;

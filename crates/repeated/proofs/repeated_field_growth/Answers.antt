@@ -11,7 +11,6 @@ use Rattle.base.proofs.Checks.{on-accepted}
 use Rattle.mask.specs.Mask.{words_needed, IsMask}
 use Rattle.dof_layout.specs.Layout.{total_of}
 use Rattle.dof_layout.specs.Answers.{square_check}
-use Rattle.dof_layout.proofs.Layouts.{filled-of}
 use Rattle.side.specs.Side.{side_holds}
 use Rattle.dual_topology.specs.Check.{topology_check, IsTopology}
 use Rattle.graph.specs.Network.{Network, field_network, region_words, frontier_words}
@@ -79,17 +78,13 @@ module _ (c : After-words_for-need) where
   room-scratch : c.words_for-need.result ≤ length c.grow_field_aware_region.new.scratch
   room-scratch = again-room zeros t.args.scratch.now _ _ (left_is _ _ _ _ (ok (goal.at.After-words_for-need c).In-Ok) c.grow_field_aware_region.ensures.spent) zeros-long
 
-pub graph_of-graph-requires : goal.graph_of-graph-requires
-graph_of-graph-requires c = square (goal.at.graph_of-graph-requires c).In-Ok
+pub field_graph_of-graph-requires : goal.field_graph_of-graph-requires
+field_graph_of-graph-requires c =
+    let a = (goal.at.field_graph_of-graph-requires c).In-Ok in
+    (square a, (good a).layout, (good a).side)
 
 pub invariant_of-seeds : goal.invariant_of-seeds
 invariant_of-seeds c = record { accepted = seeds (goal.at.invariant_of-seeds c).In-Ok }
-
-pub invariant_of-blocks : goal.invariant_of-blocks
-invariant_of-blocks c = let l = (good (goal.at.invariant_of-blocks c).In-Ok).layout in record { totals = l.running; few = l.blocks.short; filled = filled-of _ _ _ _ l.blocks }
-
-pub invariant_of-repeat_blocks : goal.invariant_of-repeat_blocks
-invariant_of-repeat_blocks c = record { sized = c.graph_of-graph.ensures.0 ∙ (good (goal.at.invariant_of-repeat_blocks c).In-Ok).side }
 
 pub words_for-need-requires : goal.words_for-need-requires
 words_for-need-requires c = omega (arith, (good (goal.at.words_for-need-requires c).In-Ok).side, (good (goal.at.words_for-need-requires c).In-Ok).layout.blocks.short)
@@ -115,15 +110,15 @@ slice_bounds-repeat_blocks-end-in-Ok-5 c = sym (length-take-le _ _ (room-scratch
 pub repeat_blocks-grown-requires : goal.repeat_blocks-grown-requires
 repeat_blocks-grown-requires c =
     let w = (goal.at.repeat_blocks-grown-requires c).After-words_for-need in
-    let n = c.words_for-need.ensures ∙ ap words_needed (sym c.graph_of-graph.ensures.0) in
-    (sym c.graph_of-graph.ensures.0, length-take-le _ _ (room-region w) ∙ n, length-take-le _ _ (room-frontier w) ∙ n, length-take-le _ _ (room-scratch w) ∙ n)
+    let n = c.words_for-need.ensures ∙ ap words_needed (sym c.field_graph_of-graph.ensures.0.0) in
+    (sym c.field_graph_of-graph.ensures.0.0, length-take-le _ _ (room-region w) ∙ n, length-take-le _ _ (room-frontier w) ∙ n, length-take-le _ _ (room-scratch w) ∙ n)
 
 pub returns-in-Ok-clause-value : goal.returns-in-Ok-clause-value
 returns-in-Ok-clause-value c =
     c.into-in-Ok.ensures
-    ∙ field-hops-told _ (field_network c.args.layout.blocks.components.now (side_holds c.args.topology.rows.row_word_ptr.now c.args.topology.rows.word_indices.now c.args.topology.rows.masks.now)) c.args.mask.words.now c.args.hops _ (ok (goal.at.returns-in-Ok-clause-value c).In-Ok) (c.repeat_blocks-grown.ensures.value ∙ ap (λ (p : ℕ → ℕ → Bool). blocks_grown_by (field_network c.args.layout.blocks.components.now p) c.args.mask.words.now c.args.hops) (side-pairs _ c.args.topology.rows c.graph_of-graph.result.topology.rows c.graph_of-graph.ensures.1))
+    ∙ field-hops-told _ (field_network c.args.layout.blocks.components.now (side_holds c.args.topology.rows.row_word_ptr.now c.args.topology.rows.word_indices.now c.args.topology.rows.masks.now)) c.args.mask.words.now c.args.hops _ (ok (goal.at.returns-in-Ok-clause-value c).In-Ok) ((rw c.field_graph_of-graph.ensures.1 at c.repeat_blocks-grown.ensures.value) ∙ ap (λ (p : ℕ → ℕ → Bool). blocks_grown_by (field_network c.args.layout.blocks.components.now p) c.args.mask.words.now c.args.hops) (side-pairs _ c.args.topology.rows c.field_graph_of-graph.result.graph.topology.rows c.field_graph_of-graph.ensures.0.1))
 
 pub returns-in-Ok-clause-spent : goal.returns-in-Ok-clause-spent
 returns-in-Ok-clause-spent c =
     let e = ok (goal.at.returns-in-Ok-clause-spent c).In-Ok in
-    on-accepted _ _ _ _ e (again-left _ _ _ _ (left_is _ _ _ _ e c.grow_field_aware_region.ensures.spent) (zeros-long (goal.at.returns-in-Ok-clause-spent c).After-words_for-need) _ (scratch-zero _ _ c.repeat_blocks-grown.ensures.scratch_after))
+    on-accepted _ _ _ _ e (again-left _ _ _ _ (left_is _ _ _ _ e c.grow_field_aware_region.ensures.spent) (zeros-long (goal.at.returns-in-Ok-clause-spent c).After-words_for-need) _ (scratch-zero _ _ (rw c.field_graph_of-graph.ensures.1 at c.repeat_blocks-grown.ensures.scratch_after)))

@@ -2,7 +2,7 @@
 use mathlib.Core.Path.{sym, ap, ◌∙◌}
 use Rattle.std.specs.Prelude.{Ok, Err}
 use Rattle.base.proofs.Checks.{handed, group-pass, group-stop}
-use Rattle.base.proofs.Checks.{on-accepted, on-refused, kept}
+use Rattle.base.proofs.Checks.{on-accepted, on-refused}
 use Rattle.side.proofs.Accepted.{room-passed}
 use Rattle.topology.specs.Answers.{build_check}
 use Rattle.topology.proofs.from_csr32.Goals as goal
@@ -12,25 +12,9 @@ build_side-requires c =
     let a = c.in_ok-accepted.ensures.accepted.1 in
     rw (a.0, a.3) (room-passed _ _ _ _ _ (sym c.check_room.ensures ∙ c.in_ok-check_room.was))
 
-pub returns-in_err-accepted : goal.returns-in_err-accepted
+pub returns-in_err-accepted-clause-value : goal.returns-in_err-accepted-clause-value
 unfolding build_check
-returns-in_err-accepted c =
-    let e = sym (group-stop _ _ _ c.in_err-accepted.ensures.refused) in record {
-      value = handed _ _ c.from_residual.ensures.1 ∙ on-refused _ _ _ Err e;
-      pointers = kept _ _ _ _ e;
-      words = kept _ _ _ _ e;
-      masked = kept _ _ _ _ e;
-    }
-
-pub returns-in_err-check_room : goal.returns-in_err-check_room
-unfolding build_check
-returns-in_err-check_room c =
-    let e = sym (group-pass _ _ _ c.in_ok-accepted.ensures.accepted.0 (sym c.in_err-check_room.was ∙ c.check_room.ensures)) in record {
-      value = handed _ _ c.from_residual-in_err-check_room.ensures.1 ∙ on-refused _ _ _ Err e;
-      pointers = kept _ _ _ _ e;
-      words = kept _ _ _ _ e;
-      masked = kept _ _ _ _ e;
-    }
+returns-in_err-accepted-clause-value c = handed _ _ c.from_residual.ensures.1 ∙ on-refused _ _ _ Err (sym (group-stop _ _ _ c.in_err-accepted.ensures.refused))
 
 pub returns : goal.returns
 unfolding build_check

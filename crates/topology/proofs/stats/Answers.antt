@@ -1,12 +1,11 @@
 -- `topology::stats` meets its contract. Assumes nothing.
 use mathlib.Core.Path.{sym, ◌∙◌, refl}
-use Rattle.std.specs.Prelude.{Err}
-use Rattle.base.proofs.Checks.{handed}
 use Prim.Native.Nat.{◌≤◌}
 use native.Mathlib.Omega.{arith}
 use Rattle.base.specs.Checks.{entry_limit}
-use Rattle.base.proofs.Checks.{on-accepted, on-refused}
+use Rattle.base.proofs.Checks.{on-accepted}
 use Rattle.side.specs.Views.{SoundSide}
+use Rattle.topology.proofs.Bytes.{bytes-are}
 use Rattle.topology.proofs.stats.Goals.{In_ok-validate}
 use Rattle.topology.proofs.stats.Goals as goal
 
@@ -29,14 +28,8 @@ overflow_cast-result-3 c = omega (arith, few (goal.at.overflow_cast-result-3 c).
 pub overflow_cast-result-4 : goal.overflow_cast-result-4
 overflow_cast-result-4 c = omega (arith, (side (goal.at.overflow_cast-result-4 c).In_ok-validate).0.shape.few_words)
 
-pub overflow_add-result-2 : goal.overflow_add-result-2
-overflow_add-result-2 c = omega (arith, (side (goal.at.overflow_add-result-2 c).In_ok-validate).0.shape.few_rows, (side (goal.at.overflow_add-result-2 c).In_ok-validate).0.shape.rows, (side (goal.at.overflow_add-result-2 c).In_ok-validate).0.shape.as_many, (side (goal.at.overflow_add-result-2 c).In_ok-validate).0.shape.few_words)
-
-pub overflow_cast-result-5 : goal.overflow_cast-result-5
-overflow_cast-result-5 c = omega (arith, (side (goal.at.overflow_cast-result-5 c).In_ok-validate).0.shape.few_rows, (side (goal.at.overflow_cast-result-5 c).In_ok-validate).0.shape.rows, (side (goal.at.overflow_cast-result-5 c).In_ok-validate).0.shape.as_many, (side (goal.at.overflow_cast-result-5 c).In_ok-validate).0.shape.few_words)
-
-pub returns-in_err-validate : goal.returns-in_err-validate
-returns-in_err-validate c = handed _ _ c.from_residual.ensures.1 ∙ on-refused _ _ _ Err (sym c.validate.ensures.value ∙ c.in_err-validate.was)
+pub metadata_bytes-requires : goal.metadata_bytes-requires
+metadata_bytes-requires c = let m = (side (goal.at.metadata_bytes-requires c).In_ok-validate).0.shape in (m.few_rows, m.few_words)
 
 pub returns : goal.returns
-returns c = on-accepted _ _ _ _ (sym c.validate.ensures.value ∙ c.in_ok-validate.was) refl
+returns c = on-accepted _ _ _ _ (sym c.validate.ensures.value ∙ c.in_ok-validate.was) (rw (c.metadata_bytes.ensures ∙ bytes-are _ _ _ _ _ c.in_ok-validate.ensures.accepted.0.shape refl) refl)

@@ -40,13 +40,9 @@ fill_field-requires c =
     let a = c.in_ok-layout.ensures.accepted in
     (a.1.blocks.fields_length ∙ sym a.1.blocks.components_length ∙ sym (ap (λ x. length x.now) a.2.0), length-take-le _ _ c.if-out-need.false ∙ needed (goal.at.fill_field-requires c).After-words_for-need)
 
-pub returns-in_err-layout : goal.returns-in_err-layout
+pub returns-in_err-layout-clause-value : goal.returns-in_err-layout-clause-value
 unfolding field_check
-returns-in_err-layout c =
-    let e = sym (group-stop _ _ _ c.in_err-layout.ensures.refused) in record {
-      value = handed _ _ c.from_residual.ensures.1 ∙ on-refused _ _ _ Err e;
-      out_after = kept _ _ _ _ e;
-    }
+returns-in_err-layout-clause-value c = handed _ _ c.from_residual.ensures.1 ∙ on-refused _ _ _ Err (sym (group-stop _ _ _ c.in_err-layout.ensures.refused))
 
 pub returns : goal.returns
 unfolding field_check

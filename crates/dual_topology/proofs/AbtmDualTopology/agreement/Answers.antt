@@ -8,17 +8,12 @@ use Rattle.side.specs.Views.{holds}
 use Rattle.side.proofs.Accepted.{side-as}
 use Rattle.agreement.specs.Agreement.{turned}
 use Rattle.dual_topology.proofs.Accepted.{agreed, agreeing, not-agreed}
-use Rattle.dual_topology.proofs.AbtmDualTopology.agreement.Goals.{After-is_transpose}
+use Rattle.dual_topology.proofs.AbtmDualTopology.agreement.Goals.{After-is_transpose, then-columns-rows-via-then-columns-rows, then-columns-rows-via-else-columns-rows+then-columns-rows-2, then-columns-rows-via-else-columns-rows+else-columns-rows-2+then-columns-rows-3}
 use Rattle.dual_topology.proofs.AbtmDualTopology.agreement.Goals as goal
 
 pub returns-then-columns-rows : goal.returns-then-columns-rows
-returns-then-columns-rows c = not-agreed _ _ _ _ _ _ _ _ _ _ _ _ (λ e. c.if-columns-rows.true (agreed _ _ _ _ _ _ _ _ _ _ _ _ e).0)
-
-pub returns-then-columns-rows-2 : goal.returns-then-columns-rows-2
-returns-then-columns-rows-2 c = not-agreed _ _ _ _ _ _ _ _ _ _ _ _ (λ e. c.if-columns-rows-2.true (agreed _ _ _ _ _ _ _ _ _ _ _ _ e).1)
-
-pub returns-then-columns-rows-3 : goal.returns-then-columns-rows-3
-returns-then-columns-rows-3 c = not-agreed _ _ _ _ _ _ _ _ _ _ _ _ (λ e. c.if-columns-rows-3.true (agreed _ _ _ _ _ _ _ _ _ _ _ _ e).2)
+returns-then-columns-rows c = not-agreed _ _ _ _ _ _ _ _ _ _ _ _
+    (λ e. let a = agreed _ _ _ _ _ _ _ _ _ _ _ _ e in elim c.then-columns-rows.branch [ then-columns-rows-via-then-columns-rows w ↦ w.if-columns-rows.true a.0 | then-columns-rows-via-else-columns-rows+then-columns-rows-2 w ↦ w.if-columns-rows-2.true a.1 | then-columns-rows-via-else-columns-rows+else-columns-rows-2+then-columns-rows-3 w ↦ w.if-columns-rows-3.true a.2 ])
 
 pub as_side-requires : goal.as_side-requires
 as_side-requires c = c.requires.0.0

@@ -1,11 +1,8 @@
 -- `dual_topology::AbtmDualTopology::row_contains` meets its contract. Assumes nothing.
-use Rattle.std.proofs.Common.{ap, ap₂, ◌∙◌, ℕ, Bool, ◌&&◌, Ok, Err}
-use Rattle.base.proofs.Checks.{handed, on-accepted, on-refused}
+use Rattle.std.proofs.Common.{ap, ap₂, ◌∙◌, ℕ, Bool, ◌&&◌, Ok}
+use Rattle.base.proofs.Checks.{on-accepted}
 use lib.Dec.{ltb}
 use Rattle.dual_topology.proofs.AbtmDualTopology.row_contains.Goals as goal
-
-pub returns-in_err-row : goal.returns-in_err-row
-returns-in_err-row c = handed _ _ c.from_residual.ensures.1 ∙ on-refused _ _ _ Err c.in_err-row.ensures.refused
 
 pub returns : goal.returns
 returns c =

@@ -20,13 +20,6 @@ pub returns-in_err-check_limits-2-clause-value : goal.returns-in_err-check_limit
 unfolding topology_check
 returns-in_err-check_limits-2-clause-value c = handed _ _ c.from_residual-in_err-check_limits-2.ensures.1 ∙ group-pass _ _ _ (sym c.check_limits.ensures ∙ c.in_ok-check_limits.was) (group-stop _ _ _ (sym c.check_limits-2.ensures ∙ c.in_err-check_limits-2.was))
 
-pub returns-in_err-fault-clause-value : goal.returns-in_err-fault-clause-value
-unfolding topology_check fault_check
-returns-in_err-fault-clause-value c =
-    handed _ _ c.from_residual-in_err-fault.ensures.1
-    ∙ group-pass _ _ _ (sym c.check_limits.ensures ∙ c.in_ok-check_limits.was)
-    (group-pass _ _ _ (sym c.check_limits-2.ensures ∙ c.in_ok-check_limits-2.was) (ap fault_check (sym c.in_err-fault.was ∙ c.fault.ensures.value)))
-
 pub returns-clause-value : goal.returns-clause-value
 unfolding topology_check fault_check
 returns-clause-value c =

@@ -49,8 +49,8 @@ blocks-2-preserved-then-stop-first c =
     let k = block-at _ _ _ c.requires.0 c.blocks-2-test.true in
     let v = c.loop-w.invariant in record {
       pointers = c.blocks-2.invariant.pointers;
-      closed = range-one _ _ _ _ _ _ _ v.masked v.within (omega arith) (omega arith) (omega arith) c.bits_below.ensures c.bits_below-in-loop-w.ensures
-          ∙ closing-word _ _ _ _ c.blocks-2-test.true (v.same ∙ c.blocks-2.invariant.closed) _ _ k _ _ _ c.bits_below.ensures c.bits_below-in-loop-w.ensures (omega arith) c.if-words-w-ne0.true;
+      closed = range-one _ _ _ _ _ _ v.masked v.within (omega arith) (omega arith) (omega arith) c.bits_between-block.ensures
+          ∙ closing-word _ _ _ _ c.blocks-2-test.true (v.same ∙ c.blocks-2.invariant.closed) _ _ k _ _ c.bits_between-block.ensures (omega arith) c.if-words-w-ne0.true;
       free = λ i a l t. absurd (omega (arith, c.if-end-next.false));
     }
 
@@ -65,7 +65,7 @@ blocks-2-preserved-then-words-w-ne0 c =
     let v = c.loop-w.invariant in record {
       pointers = c.blocks-2.invariant.pointers;
       closed = c.add_range.ensures
-          ∙ rw (total-is _ _ c.requires.0) (closing-word _ _ _ _ c.blocks-2-test.true (v.same ∙ c.blocks-2.invariant.closed) _ _ k _ _ _ c.bits_below.ensures c.bits_below-in-loop-w.ensures (omega arith) c.if-words-w-ne0.true);
+          ∙ rw (total-is _ _ c.requires.0) (closing-word _ _ _ _ c.blocks-2-test.true (v.same ∙ c.blocks-2.invariant.closed) _ _ k _ _ c.bits_between-block.ensures (omega arith) c.if-words-w-ne0.true);
       free = λ i a l t. absurd (omega (arith, c.if-end-next.false));
     }
 
@@ -76,7 +76,7 @@ loop-w-preserved c =
       masked = v.masked;
       rises = v.rises;
       within = v.within;
-      none = none-turn _ _ _ (range-bits _ _ _ _ _ _ c.bits_below.ensures c.bits_below-in-loop-w.ensures) c.if-words-w-ne0.false v.none;
+      none = none-turn _ _ _ (range-bits _ _ _ _ _ c.bits_between-block.ensures) c.if-words-w-ne0.false v.none;
     }
 
 pub invariant_of-next_member : goal.invariant_of-next_member

@@ -1,27 +1,24 @@
 -- `field_region::inner::write_owners` meets its contract. Assumes nothing.
-use Rattle.std.proofs.Common.{sym, ap, ◌∙◌, zero-add, arith, length}
-use Rattle.base.proofs.Lists.{length-list_from, get_or-list_from, put_next, put-end}
-use Rattle.dof_layout.proofs.Layouts.{offsets-count}
+use Rattle.std.proofs.Common.{◌≡◌, sym, ap, ◌∙◌, zero-add, arith, List, ℕ, length, length-take-le}
+use Rattle.base.proofs.Lists.{length-list_from, get_or-list_from, put_next, put_whole, part_left}
 use Rattle.field_region.specs.Owners.{first_owner, owners_of}
-use Rattle.field_region.proofs.Blocks.{block-at}
 use Rattle.field_region.proofs.inner.write_owners.Goals as goal
 
-pub bounds-layout-b : goal.bounds-layout-b
-bounds-layout-b c = omega (arith, offsets-count _ _ c.args.layout.totals)
-
-pub offset_bounds-dof_owners-layout : goal.offset_bounds-dof_owners-layout
-offset_bounds-dof_owners-layout c = omega (arith, block-at _ _ _ c.args.layout.totals c.loop-b-test.true, c.args.layout.filled c.loop-b.b)
-
-pub bounds-dof_owners-layout : goal.bounds-dof_owners-layout
-bounds-dof_owners-layout c = omega (arith, block-at _ _ _ c.args.layout.totals c.loop-b-test.true, c.args.layout.filled c.loop-b.b)
+-- an owner for each block
+count : (components owners : List ℕ) → length (owners_of components owners) ≡ length components
+count components owners = length-list_from (first_owner components owners) (length components) 0
 
 pub loop-b-preserved : goal.loop-b-preserved
 loop-b-preserved c =
-    let owners = owners_of c.args.layout.components.now c.args.dof_owners.now in
-    let first = first_owner c.args.layout.components.now c.args.dof_owners.now in
-    put_next owners _ _ _ _ 0 (omega (arith, length-list_from first (length c.args.layout.components.now) 0)) (omega arith) c.loop-b.invariant
-    (rw (sym (block-at _ _ _ c.args.layout.totals c.loop-b-test.true).starts) (sym (get_or-list_from first (length c.args.layout.components.now) 0 c.loop-b.b 0 c.loop-b-test.true ∙ ap first (zero-add c.loop-b.b))))
+    let cs = c.args.layout.components.now in
+    let owners = c.args.dof_owners.now in
+    let h = length-take-le (length cs) c.args.out.now c.requires.1 in
+    put_next (owners_of cs owners) _ _ _ _ 0 (omega (arith, count cs owners)) (omega arith) c.loop-b.invariant
+    (rw c.start.ensures (sym (get_or-list_from (first_owner cs owners) (length cs) 0 c.loop-b.b 0 (omega arith) ∙ ap (first_owner cs owners) (zero-add c.loop-b.b))))
 
 pub returns : goal.returns
 returns c =
-    put-end (owners_of c.args.layout.components.now c.args.dof_owners.now) _ _ c.loop-b.b (omega (arith, length-list_from (first_owner c.args.layout.components.now c.args.dof_owners.now) (length c.args.layout.components.now) 0)) c.loop-b.invariant
+    let cs = c.args.layout.components.now in
+    let owners = c.args.dof_owners.now in
+    let h = length-take-le (length cs) c.args.out.now c.requires.1 in
+    part_left _ _ _ _ (put_whole (owners_of cs owners) _ _ c.loop-b.b (count cs owners ∙ sym h) (omega arith) c.loop-b.invariant) (sym (count cs owners))

@@ -5,4 +5,4 @@ use Rattle.field_region.specs.Owners.{owners_of}
 use Rattle.field_region.proofs.inner.write_owners.Given as goal
 
 abbrev pub invariant-loop-b : goal.invariant-loop-b
-invariant-loop-b l = l.out ≡ written l.b (owners_of l.layout.components.now l.dof_owners) l.initial.out
+invariant-loop-b l = l.owner-items ≡ written l.b (owners_of l.layout.components.now l.dof_owners) l.initial.owner-items

@@ -7,5 +7,5 @@ abbrev pub invariant-loop-w : goal.invariant-loop-w
 invariant-loop-w l = record {
   frontier_long : length l.frontier ≡ length l.region;
   reached_long : length l.reached ≡ length l.region;
-  settled : Settled l.n l.initial.region l.initial.frontier l.initial.reached l.region l.frontier l.reached l.some l.w;
+  settled : Settled l.n l.initial.region l.initial.frontier l.initial.reached l.region l.frontier l.reached l.fresh_bits l.w;
 }

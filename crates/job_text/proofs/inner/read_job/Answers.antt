@@ -1,13 +1,13 @@
 -- `job_text::inner::read_job` meets its contract. Assumes nothing.
-use Rattle.std.proofs.Common.{◌≡◌, Bool, false, length, take, sym, ap, ◌∙◌, map-id}
-use borrow.Author.Tests.{le-leb, lt-leb, eq-eqb, ne_eqb}
+use Rattle.std.proofs.Common.{◌≡◌, Bool, List, ℕ, eqb, false, length, take, sym, ap, ◌∙◌, map-id}
+use borrow.Author.Tests.{le-leb, lt-leb}
 use Rattle.std.specs.Bool.{then_some}
 use Rattle.base.specs.Lists.{over}
 use Rattle.text_writing.specs.Text.{newline}
 use Rattle.text_reading.specs.Reading.{behind, list_of, value_of, number_found, list_found, from_line}
 use Rattle.job_text.specs.Job.{blocks_key, ptr_key, cols_key, seeds_key, hops_key, most64, most32, number_at, list_found_at, is_job, job_of, figures_of, figures_read}
 use Rattle.job_text.proofs.Texts.{figures-all, six_lines, job-whole, job-long, job-more}
-use Rattle.job_text.proofs.inner.read_job.Goals.{After-figures-read, else-text-le16384-via-then-text-le16384+else-rest-eq0, else-text-le16384-via-else-text-le16384}
+use Rattle.job_text.proofs.inner.read_job.Goals.{After-figures-read, else-text-le-TEXT_LIMIT-via-then-text-le-TEXT_LIMIT+else-is_empty, else-text-le-TEXT_LIMIT-via-else-text-le-TEXT_LIMIT}
 use Rattle.job_text.proofs.inner.read_job.Goals as goal
 
 -- the texts behind the lines
@@ -36,6 +36,9 @@ module _ (c : After-figures-read) where
   unfolding from_line
   behind6 = c.number_line-hops.ensures.rest ∙ ap (behind newline) behind5
 
+  ends : eqb (length c.number_line-hops.result.1.now) 0 ≡ eqb (length (from_line 6 c.args.text.now)) 0
+  ends = ap (λ (t : List ℕ). eqb (length t) 0) behind6
+
   read : c.figures-read.result ≡ then_some (six_lines c.args.text.now) (figures_of (job_of c.args.text.now))
   unfolding number_at list_found_at from_line job_of
   read =
@@ -56,12 +59,12 @@ module _ (c : After-figures-read) where
     cc (c.list_line-seeds.ensures.list_after, behind4, map-id (list_of most64 (value_of seeds_key (from_line 4 c.args.text.now)))),
   )
 
-pub returns-then-rest-eq0 : goal.returns-then-rest-eq0
-returns-then-rest-eq0 c =
-    let a = (goal.at.returns-then-rest-eq0 c).After-figures-read in
+pub returns-then-is_empty : goal.returns-then-is_empty
+returns-then-is_empty c =
+    let a = (goal.at.returns-then-is_empty c).After-figures-read in
     let t = c.args.text.now in
     let l = lists a in
-    let whole = job-whole t (le-leb _ _ c.if-text-le16384.true) (eq-eqb _ _ (sym (ap length (behind6 a)) ∙ c.if-rest-eq0.true)) in record {
+    let whole = job-whole t (le-leb _ _ c.if-text-le-TEXT_LIMIT.true) (sym (ends a) ∙ sym c.is_empty.ensures ∙ c.if-is_empty.true) in record {
       value = read a ∙ ap (λ (b : Bool). then_some b (figures_of (job_of t))) (sym whole);
       components = l.0;
       pointers = l.1;
@@ -69,14 +72,14 @@ returns-then-rest-eq0 c =
       selected = l.3;
     }
 
-pub returns-else-text-le16384 : goal.returns-else-text-le16384
-returns-else-text-le16384 c =
-    let a = (goal.at.returns-else-text-le16384 c).After-figures-read in
+pub returns-else-text-le-TEXT_LIMIT : goal.returns-else-text-le-TEXT_LIMIT
+returns-else-text-le-TEXT_LIMIT c =
+    let a = (goal.at.returns-else-text-le-TEXT_LIMIT c).After-figures-read in
     let t = c.args.text.now in
     let l = lists a in
-    let none : is_job t ≡ false = elim c.else-text-le16384.branch [
-      | else-text-le16384-via-then-text-le16384+else-rest-eq0 w ↦ job-more t (ne_eqb _ _ (λ e. w.if-rest-eq0.false (ap length (behind6 a) ∙ e)))
-      | else-text-le16384-via-else-text-le16384 w ↦ job-long t (lt-leb _ _ w.if-text-le16384.false)
+    let none : is_job t ≡ false = elim c.else-text-le-TEXT_LIMIT.branch [
+      | else-text-le-TEXT_LIMIT-via-then-text-le-TEXT_LIMIT+else-is_empty w ↦ job-more t (sym (ends a) ∙ sym w.is_empty.ensures ∙ w.if-is_empty.false)
+      | else-text-le-TEXT_LIMIT-via-else-text-le-TEXT_LIMIT w ↦ job-long t (lt-leb _ _ w.if-text-le-TEXT_LIMIT.false)
     ] in record {
       value = sym (ap (λ (b : Bool). then_some b (figures_of (job_of t))) none);
       components = l.0;

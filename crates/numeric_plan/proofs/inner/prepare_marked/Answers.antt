@@ -130,7 +130,7 @@ write-requires c =
     let l = long (goal.at.write-requires c).In_ok-check_room in
     let f = l.pattern_fits in
     let terms = counted-sources c.args.system.local.region.len (region (goal.at.write-requires c).Start) (pairs (goal.at.write-requires c).Start) c.args.system.matrix.row_ptr.now c.args.system.matrix.col_idx.now c.args.system.square p.0 (counts (goal.at.write-requires c).In_ok-counts) p.1 in
-    (f.nodes_room, f.ptr_room, f.columns_room, l.pointers_room, omega (arith, terms, l.sources_room))
+    record { members = f.nodes_room; pointers = f.ptr_room; columns = f.columns_room; source_pointers = l.pointers_room; entry_sources = omega (arith, terms, l.sources_room) }
 
 pub stats-requires : goal.stats-requires
 stats-requires c = counts-small _ _ _ _ _ c.args.system.square (passes (goal.at.stats-requires c).In_ok-counts).0 (counts (goal.at.stats-requires c).In_ok-counts) (passes (goal.at.stats-requires c).In_ok-counts).1

@@ -3,9 +3,10 @@ use mathlib.Core.Path.{◌≡◌, sym, ap, ◌∙◌, subst}
 use Rattle.std.specs.Prelude.{Ok, Err}
 use Rattle.base.specs.Checks.{Check}
 use mathlib.Core.List.{List}
-use Prim.Native.Nat.{ℕ, ◌+◌}
+use Prim.Native.Nat.{ℕ, ◌+◌, ◌≤◌}
 use native.Mathlib.Omega.{arith}
 use lib.ListN.{length, take}
+use lib.Seq.{length-take-le}
 use Rattle.base.specs.Checks.{◌then◌}
 use Rattle.base.specs.Lists.{over}
 use Rattle.base.specs.Sets.{members_below}
@@ -43,8 +44,8 @@ both s =
     let M : Check = check_matrix s.args.matrix in
     let Q : Check = check_square s.args.layout n s.args.matrix.ncols in
     let R : ℕ → Check = λ k. prepare_room n k (length s.args.matrix.col_idx.now) (length s.args.row_word_ptr.now) (length s.args.row_word_indices.now) (length s.args.row_masks.now) (length s.args.column_word_ptr.now) (length s.args.column_word_indices.now) (length s.args.column_masks.now) (length s.args.starts.now) (length s.args.order.now) (length s.args.region.now) (length s.args.frontier.now) (length s.args.scratch.now) (length s.args.members.now) (length s.args.local_ptr.now) (length s.args.local_cols.now) (length s.args.source_ptr.now) (length s.args.sources.now) in
-    let i = s.requires.inputs in
-    let room : R s.args.matrix.ncols ≡ (Ok tt) = ap R i.square ∙ room-enough n (length s.args.matrix.col_idx.now) s.args.row_word_ptr.now s.args.row_word_indices.now s.args.row_masks.now s.args.column_word_ptr.now s.args.column_word_indices.now s.args.column_masks.now s.args.starts.now s.args.order.now s.args.region.now s.args.frontier.now s.args.scratch.now s.args.members.now s.args.local_ptr.now s.args.local_cols.now s.args.source_ptr.now s.args.sources.now i.few i.short s.requires.room in
+    let i = s.requires in
+    let room : R s.args.matrix.ncols ≡ (Ok tt) = rw (i.square, s.told-row_word_ptr, s.told-row_word_indices, s.told-row_masks, s.told-column_word_ptr, s.told-column_word_indices, s.told-column_masks, s.told-starts, s.told-order, s.told-region, s.told-frontier, s.told-scratch, s.told-members, s.told-local_ptr, s.told-local_cols, s.told-source_ptr, s.told-sources) (room-enough n (length s.args.matrix.col_idx.now) i.few i.short) in
     ap (λ (k : ℕ). prepare_check (prepare_inputs M Q n k s.args.seeds.words.now) (R s.args.matrix.ncols)) i.alike ∙ check-is M Q (R s.args.matrix.ncols) n s.args.seeds.words.now i.mask room
 
 -- a region that was prepared
@@ -59,7 +60,7 @@ module _ (c : In-Ok) where
   ok = sym (both s) ∙ told.0
 
   matrix : IsMatrix s.args.matrix.nrows s.args.matrix.nrows s.args.matrix.row_ptr.now s.args.matrix.col_idx.now
-  matrix = subst (λ (k : ℕ). IsMatrix s.args.matrix.nrows k s.args.matrix.row_ptr.now s.args.matrix.col_idx.now) s.requires.inputs.square (accepted _ _ _ _ _ (both-passed _ _ ok).0).matrix
+  matrix = subst (λ (k : ℕ). IsMatrix s.args.matrix.nrows k s.args.matrix.row_ptr.now s.args.matrix.col_idx.now) s.requires.square (accepted _ _ _ _ _ (both-passed _ _ ok).0).matrix
 
   sized : s.args.matrix.nrows ≡ total s.args.layout
   sized = (accepted-square _ _ _ _ _ _ _ (both-passed _ _ ok).1).1
@@ -67,30 +68,60 @@ module _ (c : In-Ok) where
   edge : c.prepare_region.new.frontier ≡ over (frontier_words (network s.args.matrix s.args.layout) s.args.seeds.words.now s.args.hops) s.args.frontier.now
   edge = left_is _ _ _ _ c.prepare_region.ensures.edge told.0
 
+  -- its members and its pairs are few, and its lists are long enough
+  inside-few : c.in-Ok.p.pattern.local_nodes ≤ 256
+  inside-few =
+      omega (
+        arith,
+        ap (λ (x : PreparedFieldAwareLocalRegion). x.pattern.local_nodes) told.1,
+        count-le s.args.matrix.nrows (grown s.args.matrix s.args.layout s.args.seeds s.args.hops),
+        s.requires.few,
+      )
+
+  pairs-few : c.in-Ok.p.pattern.local_nnz ≤ 1023
+  pairs-few =
+      omega (
+        arith,
+        ap (λ (x : PreparedFieldAwareLocalRegion). x.pattern.local_nnz) told.1,
+        pairs_fit s.args.matrix.nrows s.args.matrix.row_ptr.now s.args.matrix.col_idx.now s.args.layout.blocks.components.now s.args.seeds.words.now s.args.hops matrix sized,
+        s.requires.short,
+      )
+
+  members-long : 1024 ≤ length c.prepare_region.new.global_nodes
+  members-long = omega (arith, s.told-members, c.prepare_region.auto.global_nodes)
+
+  pointers-long : 1024 ≤ length c.prepare_region.new.local_row_ptr
+  pointers-long = omega (arith, s.told-local_ptr, c.prepare_region.auto.local_row_ptr)
+
+  columns-long : 1024 ≤ length c.prepare_region.new.local_col_idx
+  columns-long = omega (arith, s.told-local_cols, c.prepare_region.auto.local_col_idx)
+
+front-few : (n : ℕ) (l : List ℕ) → n ≤ 1024 → n ≤ length l → length (take n l) ≤ 1024
+front-few n l few long = omega (arith, few, length-take-le n l long)
+
 -- the frontier's words are a mask
 pub invariant_of-reached : goal.invariant_of-reached
 invariant_of-reached c =
     let o = (goal.at.invariant_of-reached c).In-Ok in
     let n = c.args.matrix.nrows in
-    record { accepted = subst (λ (k : ℕ). IsMask n (take k c.prepare_region.new.frontier)) (sym c.words_for-need.ensures) (frontier_room n _ _ _ _ _ (matrix o) (sized o) _ c.args.frontier.now (edge o)) }
+    record { accepted = subst (λ (k : ℕ). IsMask n (take k c.prepare_region.new.frontier)) (sym c.words_for.ensures) (frontier_room n _ _ _ _ _ (matrix o) (sized o) _ c.args.frontier.now (edge o)) }
+
+pub shared_ref_as_front-report : goal.shared_ref_as_front-report
+shared_ref_as_front-report c = let o = (goal.at.shared_ref_as_front-report c).In-Ok in omega (arith, inside-few o, members-long o)
+
+pub shared_ref_as_front-report-in-Ok : goal.shared_ref_as_front-report-in-Ok
+shared_ref_as_front-report-in-Ok c = let o = (goal.at.shared_ref_as_front-report-in-Ok c).In-Ok in omega (arith, inside-few o, pointers-long o)
+
+pub shared_ref_as_front-report-in-Ok-2 : goal.shared_ref_as_front-report-in-Ok-2
+shared_ref_as_front-report-in-Ok-2 c = let o = (goal.at.shared_ref_as_front-report-in-Ok-2 c).In-Ok in omega (arith, inside-few o, pairs-few o, columns-long o)
 
 pub report-requires : goal.report-requires
 report-requires c =
-    let o = (goal.at.report-requires c).In-Ok in
-    let n = c.args.matrix.nrows in
-    let i = c.requires.inputs in
-    let a = c.requires.room in
-    let r = c.prepare_region in
-    let members = ap (λ (x : PreparedFieldAwareLocalRegion). x.pattern.local_nodes) (told o).1 in
-    let pairs = ap (λ (x : PreparedFieldAwareLocalRegion). x.pattern.local_nnz) (told o).1 in
-    let m = count-le n (grown c.args.matrix c.args.layout c.args.seeds c.args.hops) in
-    let k = pairs_fit n c.args.matrix.row_ptr.now c.args.matrix.col_idx.now c.args.layout.blocks.components.now c.args.seeds.words.now c.args.hops (matrix o) (sized o) in (
-      i.few,
-      omega (arith, members, m, i.few),
-      omega (arith, pairs, k, i.short),
-      omega (arith, members, m, i.few, a.members, r.auto.global_nodes),
-      omega (arith, members, m, i.few, a.local_pointers, r.auto.local_row_ptr),
-      omega (arith, pairs, k, i.short, a.local_columns, r.auto.local_col_idx),
+    let o = (goal.at.report-requires c).In-Ok in (
+      c.requires.few,
+      front-few _ _ (omega (arith, inside-few o)) (omega (arith, inside-few o, members-long o)),
+      front-few _ _ (omega (arith, inside-few o)) (omega (arith, inside-few o, pointers-long o)),
+      front-few _ _ (omega (arith, inside-few o, pairs-few o)) (omega (arith, inside-few o, pairs-few o, columns-long o)),
     )
 
 pub returns-in-Err : goal.returns-in-Err
@@ -112,7 +143,7 @@ returns-in-Ok c =
     r.new.global_nodes r.new.frontier r.new.local_row_ptr r.new.local_col_idx c.args.members.now c.args.frontier.now c.args.local_ptr.now c.args.local_cols.now
     (left_is _ _ _ _ r.ensures.members a.0) (edge o) (left_is _ _ _ _ r.ensures.pointers a.0) (left_is _ _ _ _ r.ensures.columns a.0) in
     let p = c.in-Ok.p in
-    let front = ap (λ (k : ℕ). result_lines (take p.pattern.local_nodes r.new.global_nodes) (members_below c.args.matrix.nrows (in_mask (take k r.new.frontier))) p.growth.hops_completed (take (p.pattern.local_nodes + 1) r.new.local_row_ptr) (take p.pattern.local_nnz r.new.local_col_idx)) c.words_for-need.ensures in
+    let front = ap (λ (k : ℕ). result_lines (take p.pattern.local_nodes r.new.global_nodes) (members_below c.args.matrix.nrows (in_mask (take k r.new.frontier))) p.growth.hops_completed (take (p.pattern.local_nodes + 1) r.new.local_row_ptr) (take p.pattern.local_nnz r.new.local_col_idx)) c.words_for.ensures in
     let whole = front ∙ same ∙ sym (ap (λ (x : Check). text_of x (lent_text c.args.matrix c.args.layout c.args.seeds c.args.hops)) (ok o)) in record {
       value = c.report.ensures.value ∙ ap (λ (x : List ℕ). text_answer x c.args.out.now) whole;
       out_after = c.report.ensures.out_after ∙ ap (λ (x : List ℕ). text_left x c.args.out.now) whole;

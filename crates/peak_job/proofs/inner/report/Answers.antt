@@ -1,7 +1,7 @@
 -- `peak_job::inner::report` meets its contract. Assumes nothing.
 use mathlib.Core.Path.{◌≡◌, sym, ap, ◌∙◌}
 use mathlib.Core.List.{List}
-use Prim.Native.Nat.{ℕ, ◌+◌, ◌≤◌}
+use Prim.Native.Nat.{ℕ, ◌≤◌}
 use native.Mathlib.Omega.{arith}
 use lib.ListN.{take, length-replicate}
 use lib.Seq.{length-take-le}
@@ -23,9 +23,9 @@ few c = omega (arith, c.write_nodes-reached.ensures.value, count-le c.args.front
 pub slice_bounds-edge-end : goal.slice_bounds-edge-end
 slice_bounds-edge-end c = omega (arith, few (goal.at.slice_bounds-edge-end c).After-write_nodes-reached, length-replicate {A = ℕ} 256 0, c.write_nodes-reached.auto.nodes)
 
-pub slice_bounds-write-end-2 : goal.slice_bounds-write-end-2
-slice_bounds-write-end-2 c =
-    sym (length-take-le _ _ (omega (arith, few (goal.at.slice_bounds-write-end-2 c).After-write_nodes-reached, length-replicate {A = ℕ} 256 0, c.write_nodes-reached.auto.nodes)))
+pub slice_bounds-write-end : goal.slice_bounds-write-end
+slice_bounds-write-end c =
+    sym (length-take-le _ _ (omega (arith, few (goal.at.slice_bounds-write-end c).After-write_nodes-reached, length-replicate {A = ℕ} 256 0, c.write_nodes-reached.auto.nodes)))
 
 -- the front of the array is the frontier's members
 listed : (c : After-write_nodes-reached) → take c.write_nodes-reached.result c.write_nodes-reached.new.nodes ≡ members_below c.args.frontier.len (in_mask c.args.frontier.words.now)
@@ -38,7 +38,7 @@ listed c =
 pub returns : goal.returns
 returns c =
     let same = listed (goal.at.returns c).After-write_nodes-reached in
-    let text : List ℕ → List ℕ = λ x. result_lines (take c.args.inside c.args.members.now) x c.args.completed (take (c.args.inside + 1) c.args.local_ptr.now) (take c.args.pairs c.args.local_cols.now) in record {
+    let text : List ℕ → List ℕ = λ x. result_lines c.args.region.now x c.args.completed c.args.ptr.now c.args.cols.now in record {
       value = c.write.ensures.value ∙ ap (λ (x : List ℕ). text_answer (text x) c.args.out.now) same;
       out_after = c.write.ensures.out_after ∙ ap (λ (x : List ℕ). text_left (text x) c.args.out.now) same;
     }

@@ -1,6 +1,6 @@
 -- `repeated::local::plan_again` meets its contract: each list is written with what it holds. Assumes nothing.
-use mathlib.Core.Path.{◌≡◌, sym, ◌∙◌}
-use Rattle.std.specs.Prelude.{Ok}
+use mathlib.Core.Path.{◌≡◌, sym, ◌∙◌, subst}
+use Rattle.std.specs.Prelude.{Ok, IsOk}
 use Rattle.base.specs.Checks.{Check}
 use mathlib.Core.Bool.{Bool}
 use mathlib.Core.List.{List}
@@ -31,13 +31,13 @@ check s =
 made : (s : Start) → check s ≡ Ok tt
 made s = held-accepted s.args.system.local.region.len s.args.system.local.rows.row_word_ptr.now s.args.system.local.rows.word_indices.now s.args.system.local.rows.masks.now s.args.system.matrix.row_ptr.now s.args.system.matrix.col_idx.now s.args.system.local.region.words.now s.args.nodes.now s.args.local_ptr.now s.args.local_cols.now s.args.source_ptr.now s.args.sources.now s.requires
 
-pub returns-in-Err : goal.returns-in-Err
-returns-in-Err c =
-    let s = (goal.at.returns-in-Err c).Start in
-    absurd (plan-made (check s) c.args.system.local.region.len (region s) (lists s) _ (made s) (sym c.prepare.ensures.value ∙ c.in-Err.is))
+pub unwrap-requires : goal.unwrap-requires
+unwrap-requires c =
+    let s = (goal.at.unwrap-requires c).Start in
+    subst IsOk (sym c.prepare.ensures.value) (plan-made (check s) c.args.system.local.region.len (region s) (lists s) (made s))
 
-pub returns-in-Ok-clause-value : goal.returns-in-Ok-clause-value
-returns-in-Ok-clause-value c =
-    let s = (goal.at.returns-in-Ok-clause-value c).Start in
-    let stats = plan-accepted (check s) c.args.system.local.region.len (region s) (lists s) _ (sym c.prepare.ensures.value ∙ c.in-Ok.is) in
+pub returns-clause-value : goal.returns-clause-value
+returns-clause-value c =
+    let s = (goal.at.returns-clause-value c).Start in
+    let stats = plan-accepted (check s) c.args.system.local.region.len (region s) (lists s) c.unwrap.result (sym c.prepare.ensures.value ∙ c.unwrap.ensures) in
     cc (stats.1, held-terms c.args.system.local.region.len c.args.system.local.rows.row_word_ptr.now c.args.system.local.rows.word_indices.now c.args.system.local.rows.masks.now c.args.system.matrix.row_ptr.now c.args.system.matrix.col_idx.now c.args.system.local.region.words.now c.requires.inputs)

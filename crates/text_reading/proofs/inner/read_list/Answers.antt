@@ -1,5 +1,6 @@
 -- `text_reading::inner::read_list` meets its contract. Assumes nothing.
-use Rattle.std.proofs.Common.{◌≡◌, ◌&&◌, set, ap, ◌∙◌, subst, arith, option_copied}
+use Rattle.std.proofs.Common.{◌≡◌, ◌&&◌, length, set, sym, ap, ◌∙◌, subst, arith, option_copied}
+use borrow.Author.Tests.{eqb-true, eqb-false}
 use Rattle.text_writing.specs.Text.{comma}
 use Rattle.text_reading.specs.Reading.{is_number, number_of, before}
 use Rattle.text_reading.proofs.Numbers.{number-some, number-or, number-within}
@@ -10,10 +11,10 @@ use Rattle.text_reading.proofs.inner.read_list.Goals as goal
 
 -- the number that is stored
 value : (g : Over) (c : After-unwrap_or g) → c.unwrap_or.result ≡ number_of g.T.Width.MOST (before comma c.in-Some.part.now)
-value g c = cc (c.unwrap_or.ensures, c.read_number-number.ensures, c.MOST.ensures, c.cut.ensures.front, number-or g.T.Width.MOST (before comma c.in-Some.part.now))
+value g c = cc (c.unwrap_or.ensures, c.read_number-number.ensures, c.cut.ensures.front, number-or g.T.Width.MOST (before comma c.in-Some.part.now))
 
-pub returns-then-bytes-eq0 : goal.returns-then-bytes-eq0
-returns-then-bytes-eq0 g c = let e = list-none g.T.Width.made g.T.Width.MOST c.args.bytes.now c.args.list.now c.if-bytes-eq0.true in record { count = e.0; list_after = e.1 }
+pub returns-then-is_empty : goal.returns-then-is_empty
+returns-then-is_empty g c = let e = list-none g.T.Width.made g.T.Width.MOST c.args.bytes.now c.args.list.now (eqb-true (length c.args.bytes.now) 0 (sym c.is_empty.ensures ∙ c.if-is_empty.true)) in record { count = e.0; list_after = e.1 }
 
 pub of-requires : goal.of-requires
 of-requires g c = rw (value g (goal.at.of-requires g c).After-unwrap_or) (number-within _ _)
@@ -29,13 +30,13 @@ loop-left-preserved g c =
     let field = before comma c.in-Some.part.now in
     let turn = listing-turn made most c.args.bytes.now c.args.list.now l.list l.good l.count c.in-Some.part.now (subst (λ o. Listing made most c.args.bytes.now c.args.list.now l.list l.good l.count (option_copied o)) c.in-Some.is l.invariant) in
     let list : c.store.new.list ≡ set l.list l.count (made (number_of most field)) = cc (value g (goal.at.loop-left-preserved g c).After-unwrap_or) in
-    let good : (l.good && c.is_some-good.result) ≡ (l.good && is_number most field) = cc (c.is_some-good.ensures, c.read_number-number.ensures, c.MOST.ensures, c.cut.ensures.front, number-some most field) in
+    let good : (l.good && c.is_some-good.result) ≡ (l.good && is_number most field) = cc (c.is_some-good.ensures, c.read_number-number.ensures, c.cut.ensures.front, number-some most field) in
     rw (list, good, c.cut.ensures.back) turn
 
 pub returns : goal.returns
 returns g c =
     let l = c.loop-left in
-    let e = listing-end g.T.Width.made g.T.Width.MOST c.args.bytes.now c.args.list.now l.list l.good l.count (subst (λ o. Listing g.T.Width.made g.T.Width.MOST c.args.bytes.now c.args.list.now l.list l.good l.count (option_copied o)) c.in_default.is l.invariant) (omega arith) in record {
+    let e = listing-end g.T.Width.made g.T.Width.MOST c.args.bytes.now c.args.list.now l.list l.good l.count (subst (λ o. Listing g.T.Width.made g.T.Width.MOST c.args.bytes.now c.args.list.now l.list l.good l.count (option_copied o)) c.in_default.is l.invariant) (omega (arith, eqb-false (length c.args.bytes.now) 0 (sym c.is_empty.ensures ∙ c.if-is_empty.false))) in record {
       count = c.then_some.ensures ∙ e.0;
       list_after = e.1;
     }

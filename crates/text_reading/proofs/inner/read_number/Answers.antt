@@ -1,28 +1,33 @@
 -- `text_reading::inner::read_number` meets its contract. Assumes nothing.
-use Rattle.std.proofs.Common.{◌≡◌, ◌<◌, false, true, Bool, length, sym, ap, ◌∙◌, arith}
+use Rattle.std.proofs.Common.{◌≡◌, ◌&&◌, ◌<◌, leb, eqb, false, true, Bool, List, ℕ, length, sym, ap, ◌∙◌, arith}
 use Rattle.std.specs.Bool.{then_some}
-use Rattle.text_reading.specs.Reading.{value_from, number_of, leading_zero}
-use Rattle.text_reading.proofs.Numbers.{zero-leads, zero-alone, no_zero, number-empty, number-first, number-is}
-use Rattle.text_reading.proofs.inner.read_number.Goals.{then-bytes-eq48+else-bytes-gt1, else-bytes-eq48}
+use borrow.Author.Tests.{eqb-true, eqb-false}
+use Rattle.base.specs.Lists.{every}
+use Rattle.text_reading.specs.Reading.{is_digit, is_number, value_from, number_of, leading_zero}
+use Rattle.text_reading.proofs.Numbers.{number-empty, number-first, number-is}
+use Rattle.text_reading.proofs.inner.read_number.Goals.{then-is_empty-via-then-is_empty, then-is_empty-via-else-is_empty+then-has_leading_zero}
 use Rattle.text_reading.proofs.inner.read_number.Goals as goal
 
-pub returns-then-bytes-eq0 : goal.returns-then-bytes-eq0
-returns-then-bytes-eq0 c =
-    let s = c.args.bytes.now in
-    let most = c.args.most in
-    sym (ap (λ (b : Bool). then_some b (number_of most s)) (number-empty most s c.if-bytes-eq0.true))
+some : (s : List ℕ) → eqb (length s) 0 ≡ false → 0 < length s
+some s e = omega (arith, eqb-false (length s) 0 e)
 
-pub returns-then-bytes-gt1 : goal.returns-then-bytes-gt1
-returns-then-bytes-gt1 c =
+pub returns-then-is_empty : goal.returns-then-is_empty
+returns-then-is_empty g c =
     let s = c.args.bytes.now in
-    let most = c.args.most in
-    let two : 1 < length s = omega (arith, c.if-bytes-gt1.true) in
-    sym (ap (λ (b : Bool). then_some b (number_of most s)) (number-first most s (omega arith) true (zero-leads s two c.if-bytes-eq48.true)))
+    let most = g.T.Width.MOST in
+    let none : is_number most s ≡ false = elim c.then-is_empty.branch [
+      | then-is_empty-via-then-is_empty w ↦ number-empty most s (eqb-true (length s) 0 (sym c.is_empty.ensures ∙ w.if-is_empty.true))
+      | then-is_empty-via-else-is_empty+then-has_leading_zero w ↦ number-first most s (some s (sym c.is_empty.ensures ∙ w.if-is_empty.false)) true (sym w.has_leading_zero.ensures ∙ w.if-has_leading_zero.true)
+    ] in
+    sym (ap (λ (b : Bool). then_some b (number_of most s)) none)
 
 pub returns : goal.returns
-returns c =
+returns g c =
     let s = c.args.bytes.now in
-    let most = c.args.most in
-    let h : 0 < length s = omega (arith, c.if-bytes-eq0.false) in
-    let z : leading_zero s ≡ false = elim c.if-bytes-eq48.branch [ then-bytes-eq48+else-bytes-gt1 w ↦ zero-alone s (omega arith) | else-bytes-eq48 w ↦ no_zero s w.if-bytes-eq48.false ] in
-    c.read_digits.ensures ∙ sym (ap (λ (b : Bool). then_some b (value_from 0 s)) (number-first most s h false z)) ∙ number-is most s
+    let most = g.T.Width.MOST in
+    let h : 0 < length s = some s (sym c.is_empty.ensures ∙ c.if-is_empty.false) in
+    let z : leading_zero s ≡ false = sym c.has_leading_zero.ensures ∙ c.if-has_leading_zero.false in
+    c.read_digits.ensures
+    ∙ ap (λ (m : ℕ). then_some (every is_digit s && leb (value_from 0 s) m) (value_from 0 s)) c.MOST.ensures
+    ∙ sym (ap (λ (b : Bool). then_some b (value_from 0 s)) (number-first most s h false z))
+    ∙ number-is most s

@@ -4,4 +4,4 @@ use Rattle.twins.specs.Keys.{class_at, repeated, Table}
 use Rattle.twins.proofs.table.first_met.Given as goal
 
 abbrev pub invariant-loop-b : goal.invariant-loop-b
-invariant-loop-b l = Table l.keys l.table l.class.last l.class.number l.last_slot l.b × ((a : ℕ) → a < l.b → class_at l.keys l.class.last a ≡ l.class.number → repeated l.keys a ≡ false)
+invariant-loop-b l = Table l.fn.front.keys l.table l.class.last l.class.number l.last_slot l.b × ((a : ℕ) → a < l.b → class_at l.fn.front.keys l.class.last a ≡ l.class.number → repeated l.fn.front.keys a ≡ false)

@@ -5,7 +5,8 @@ use Rattle.side.specs.Side.{flip}
 use Rattle.side.specs.Views.{pairs}
 use Rattle.side.proofs.Sides.{own-pairs}
 use Rattle.agreement.specs.Agreement.{within}
-use Rattle.agreement.proofs.Turned.{turned_rows, every-range}
+use Rattle.base.proofs.Passes.{every-range}
+use Rattle.agreement.proofs.Turned.{turned_rows}
 use Rattle.agreement.proofs.inner.Sides.is_transpose.Goals as goal
 
 pub returns : goal.returns

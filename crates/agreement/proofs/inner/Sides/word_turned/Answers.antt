@@ -1,24 +1,26 @@
-use Rattle.std.proofs.Common.{sym, ap, ◌∙◌, ℕ, Bool, arith}
-use Rattle.agreement.proofs.Words.{walk_start, walk_col, walk_next, walk_stop, walk_end}
+-- Each set bit is a column of the side, and the test of all of them asks each column for the row. Assumes nothing.
+use Rattle.std.proofs.Common.{◌≡◌, ap, ◌∙◌, ◌+◌, ◌*◌, ℕ, Bool, arith, rules, tests}
+use Rattle.base.specs.Lists.{every}
+use Rattle.std.proofs.lemmas.Iterator.Adapters.{serves_from_places}
+use Rattle.std.proofs.lemmas.Iterator.Consumers.{YieldsList-from_first}
+use Rattle.std.proofs.lemmas.Iterator.Search.{all_from_yields_List}
+use Rattle.word.specs.Bits.{set_bits}
+use Rattle.word.specs.declared.inner.Bits.{Bits}
+use Rattle.side.specs.Views.{pairs}
+use Rattle.agreement.proofs.Words.{bit_col}
 use Rattle.agreement.proofs.inner.Sides.word_turned.Goals as goal
 
-pub loop-bit-init : goal.loop-bit-init
-loop-bit-init c = rw (c.into_iter-bit-iterator.ensures.into_iter_gives, c.of-bit-items.ensures) (walk_start _ _ _ _ c.requires.1)
-
-pub prove-unreachable-requires : goal.prove-unreachable-requires
-prove-unreachable-requires c = omega (arith, walk_col _ _ _ _ _ c.loop-bit.invariant _ _ c.in-Some.ensures.steps)
-
-pub row-requires : goal.row-requires
-row-requires c = omega (arith, c.if-prove.false, c.args.self.turned.shape.rows, c.args.self.columns.accepted.shape.rows)
-
-pub holds-requires : goal.holds-requires
-holds-requires c = omega (arith, c.requires.0, c.args.self.turned.few_cols)
-
-pub returns-then-not-holds : goal.returns-then-not-holds
-returns-then-not-holds c = sym (walk_stop _ _ _ _ _ c.loop-bit.invariant _ _ c.in-Some.ensures.steps (sym (c.holds.ensures ∙ ap (λ (f : ℕ → Bool). f c.args.row) c.row.ensures.columns) ∙ c.if-not-holds.true))
-
-pub loop-bit-preserved : goal.loop-bit-preserved
-loop-bit-preserved c = walk_next _ _ _ _ _ c.loop-bit.invariant _ _ c.in-Some.ensures.steps (sym (c.holds.ensures ∙ ap (λ (f : ℕ → Bool). f c.args.row) c.row.ensures.columns) ∙ c.if-not-holds.false)
+pub all-requires-clause-callable : goal.all-requires-clause-callable
+all-requires-clause-callable c =
+    let s = c.args.self in
+    serves_from_places (YieldsList-from_first (λ x. x) (λ (s : Bits). set_bits s.left) (set_bits c.args.word.mask) (ap set_bits c.of.ensures))
+    (λ x q r. search rules)
+    (λ x k h e. (omega (arith, bit_col s.rows.ncols c.args.word.word_index c.args.word.mask k x c.requires.1 h e, c.base_col-first.ensures, s.turned.shape.rows, s.columns.accepted.shape.rows), omega (arith, c.requires.0, s.turned.few_cols)))
 
 pub returns : goal.returns
-returns c = sym (walk_end _ _ _ _ _ c.loop-bit.invariant c.in-None.ensures.steps.0)
+returns c =
+    let from : ℕ → ℕ → Bool = λ n b. pairs c.args.self.columns (n + b) c.args.row in
+    let first : c.base_col-first.result ≡ 64 * c.args.word.word_index = omega (arith, c.base_col-first.ensures) in
+    all_from_yields_List (from c.base_col-first.result) _ _ _ c.all.ensures.ran
+    (YieldsList-from_first (λ x. x) (λ (s : Bits). set_bits s.left) (set_bits c.args.word.mask) (ap set_bits c.of.ensures)) (λ x b q k. search (rules, tests))
+    ∙ ap (λ (n : ℕ). every (from n) (set_bits c.args.word.mask)) first

@@ -1,4 +1,5 @@
--- `binding::inner::System::count_sources` meets its contract. The invariant: the entries of the members before the one that comes next are counted. Assumes nothing.
+-- `binding::inner::System::count_sources` meets its contract. The invariant: the entries of the members before the one that comes next are counted.
+-- Assumes nothing.
 use Rattle.mask.proofs.Nexts.{Over, coming}
 use Rattle.binding.proofs.Sources.{Counting}
 use Rattle.binding.proofs.inner.System.count_sources.Given as goal

@@ -1,5 +1,5 @@
--- `binding::inner::System::follow_row` meets its contract. The invariant: the words of the row before k hold the columns of its entries before e, and what
--- both hold inside the region is counted. Assumes nothing.
+-- `binding::inner::System::follow_row` meets its contract. The invariant: the words of the row before k hold the columns of its entries before e, and
+-- what both hold inside the region is counted. Assumes nothing.
 use Prim.Native.Nat.{◌+◌, ◌≤◌}
 use native.Mathlib.Omega.{arith}
 use lib.ListN.{length, get_or}

@@ -1,11 +1,13 @@
--- `binding::inner::System::follow_single` meets its contract. The invariant: where nothing differs so far, the first i words of the row are its first i
--- entries, one each. Assumes nothing.
+-- `binding::inner::System::follow_single` meets its contract. The invariant: where nothing differs so far, the first i words of the row are its first
+-- i entries, one each. Assumes nothing.
+use mathlib.Core.Path.{ap, ◌∙◌}
 use Prim.Native.Nat.{◌+◌, ◌≤◌}
 use native.Mathlib.Omega.{arith}
 use lib.ListN.{length, get_or}
-use Rattle.mask.proofs.Masks.{is-length}
+use Rattle.base.specs.Sets.{one_if}
 use Rattle.csr32.proofs.Matrix.{ptr_le}
 use Rattle.side.proofs.AtRow.{at_up, at_words, at-masks}
+use Rattle.pattern.proofs.Counting.{bool-number, bool-small}
 use Rattle.binding.proofs.Runs.{same_start, single_start, single_turn, single_few, follow-last}
 use Rattle.binding.proofs.inner.System.follow_single.Goals.{In-loop-i}
 use Rattle.binding.proofs.inner.System.follow_single.Goals as goal
@@ -31,11 +33,9 @@ bounds-self-from c = omega (arith, at_words _ _ _ _ _ c.args.self.local.square c
 pub bounds-self-from-in-loop-i : goal.bounds-self-from-in-loop-i
 bounds-self-from-in-loop-i c = omega (arith, at-masks _ _ _ _ _ c.args.self.local.square c.args.r c.requires.0)
 
-pub bounds-self-w : goal.bounds-self-w
-bounds-self-w c = omega (arith, is-length _ _ c.args.self.local.region.accepted, c.args.self.square.inside (get_or c.args.self.matrix.row_ptr.now c.args.r 0 + c.loop-i.i) (omega (arith, in_cols (goal.at.bounds-self-w c).In-loop-i)))
-
 pub overflow_add-sources : goal.overflow_add-sources
-overflow_add-sources c = omega (arith, single_few _ _ _ _ _ _ _ _ _ _ c.loop-i.invariant (omega arith))
+overflow_add-sources c =
+    omega (arith, c.from-sources.ensures, bool-small c.holds.result, single_few _ _ _ _ _ _ _ _ _ _ c.loop-i.invariant (omega arith))
 
 pub loop-i-preserved : goal.loop-i-preserved
 loop-i-preserved c =
@@ -43,6 +43,7 @@ loop-i-preserved c =
     let r = c.args.r in
     single_turn c.args.self.local.rows.word_indices.now c.args.self.local.rows.masks.now c.args.self.local.region.words.now c.args.self.matrix.col_idx.now _ _ _ l.i l.other l.sources l.invariant (omega arith) (get_or c.args.self.local.rows.row_word_ptr.now (r + 1) 0) (omega arith)
     (at_words _ _ _ _ _ c.args.self.local.square r c.requires.0) (at-masks _ _ _ _ _ c.args.self.local.square r c.requires.0) (c.args.self.local.square.rising r c.requires.0) (in_cols (goal.at.loop-i-preserved c).In-loop-i)
+    _ (c.from-sources.ensures ∙ bool-number c.holds.result ∙ ap one_if c.holds.ensures)
 
 pub returns : goal.returns
 returns c =

@@ -1,5 +1,5 @@
--- `binding::inner::System::follow_single` meets its contract. The invariant: where nothing differs so far, the first i words of the row are its first i
--- entries, one each. Assumes nothing.
+-- `binding::inner::System::follow_single` meets its contract. The invariant: where nothing differs so far, the first i words of the row are its first
+-- i entries, one each. Assumes nothing.
 use lib.ListN.{get_or}
 use Rattle.binding.proofs.Runs.{Singly}
 use Rattle.binding.proofs.inner.System.follow_single.Given as goal

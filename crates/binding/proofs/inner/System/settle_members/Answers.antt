@@ -1,5 +1,5 @@
--- `binding::inner::System::settle_members` meets its contract. The invariant: the rows of the members before the one that comes next pass, are counted, and are marked where they
--- have a pair, and the mask of a row's entries is empty. Assumes nothing.
+-- `binding::inner::System::settle_members` meets its contract. The invariant: the rows of the members before the one that comes next pass, are
+-- counted, and are marked where they have a pair, and the mask of a row's entries is empty. Assumes nothing.
 use mathlib.Core.Path.{◌≡◌, refl, sym, ◌∙◌}
 use native.Mathlib.Omega.{arith}
 use Rattle.base.proofs.Checks.{handed, refused-not-accepted}
@@ -9,7 +9,7 @@ use Rattle.mask.proofs.Masks.{is-of}
 use Rattle.mask.proofs.Nexts.{Given, walk-starts, walk-gives, walk-ends}
 use Rattle.side.specs.Side.{side_holds}
 use Rattle.binding.proofs.Paired.{Marks, marks-first, marks-turn, marks-last}
-use Rattle.binding.proofs.Sources.{Settling, settle_first, settle_stop, stop_check, settle_turn, settle_last, row_pairs, pairs_fit, sources_fit}
+use Rattle.binding.proofs.Sources.{Settling, settle_first, settle_stop, stop_check, settle_turn, settle_last, row_pairs, settle_room}
 use Rattle.binding.proofs.inner.System.settle_members.Goals.{In-Some}
 use Rattle.binding.proofs.inner.System.settle_members.Goals as goal
 
@@ -19,7 +19,7 @@ module _ (c : In-Some) where
   came = walk-gives _ _ _ c.loop-r.invariant.0 _ _ c.in-Some.ensures.steps
 
   -- and the rows before it are settled
-  before : Settling c.args.self.local.region.len c.args.self.local.region.words.now c.args.self.local.rows.row_word_ptr.now c.args.self.local.rows.word_indices.now c.args.self.local.rows.masks.now c.args.self.matrix.row_ptr.now c.args.self.matrix.col_idx.now c.loop-r.members c.loop-r.pairs c.loop-r.sources c.in-Some.r
+  before : Settling c.args.self.local.region.len c.args.self.local.region.words.now c.args.self.local.rows.row_word_ptr.now c.args.self.local.rows.word_indices.now c.args.self.local.rows.masks.now c.args.self.matrix.row_ptr.now c.args.self.matrix.col_idx.now c.loop-r.members c.loop-r.rows c.in-Some.r
   before = rw came.here c.loop-r.invariant.1
 
   marked : Marks c.args.self.local.region.len c.args.self.local.region.words.now (side_holds c.args.self.local.rows.row_word_ptr.now c.args.self.local.rows.word_indices.now c.args.self.local.rows.masks.now) c.loop-r.paired c.in-Some.r
@@ -31,7 +31,7 @@ loop-r-init c =
     let from : c.into_iter-r-iterator.result ≡ c.members-r-items.result = c.into_iter-r-iterator.ensures.into_iter_gives in
     let next = walk-starts a.self.local.region.len a.self.local.region.words.now c.into_iter-r-iterator.result (rw from c.members-r-items.ensures.at) in (
       record { sized = rw from (rw c.members-r-items.ensures.mask refl); held = rw from (rw c.members-r-items.ensures.mask refl) },
-      settle_first a.self.local.region.len a.self.local.region.words.now a.self.local.rows.row_word_ptr.now a.self.local.rows.word_indices.now a.self.local.rows.masks.now a.self.matrix.row_ptr.now a.self.matrix.col_idx.now _ next,
+      settle_first a.self.local.region.len a.self.local.region.words.now a.self.local.rows.row_word_ptr.now a.self.local.rows.word_indices.now a.self.local.rows.masks.now a.self.matrix.row_ptr.now a.self.matrix.col_idx.now _ _ (λ i. let e = c.default-rows.ensures in record { pairs = e.0 i; sources = e.1 i }) next,
       marks-first a.self.local.region.len a.self.local.region.words.now (side_holds a.self.local.rows.row_word_ptr.now a.self.local.rows.word_indices.now a.self.local.rows.masks.now) a.paired.now _ next c.requires.0,
       c.requires.1,
     )
@@ -45,8 +45,8 @@ returns-in_err-row c =
     let l = c.loop-r in
     let s = (goal.at.returns-in_err-row c).In-Some in
     let told = sym c.in_err-row.was ∙ c.settle_row.ensures.value in record {
-      value = handed _ _ c.from_residual.ensures.1 ∙ settle_stop a.self.local.region.len a.self.local.region.words.now a.self.local.rows.row_word_ptr.now a.self.local.rows.word_indices.now a.self.local.rows.masks.now a.self.matrix.row_ptr.now a.self.matrix.col_idx.now l.members l.pairs l.sources c.in-Some.r (before s) (came s).inside _ told;
-      marks = λ t. absurd (refused-not-accepted _ (sym (stop_check a.self.local.region.len a.self.local.region.words.now a.self.local.rows.row_word_ptr.now a.self.local.rows.word_indices.now a.self.local.rows.masks.now a.self.matrix.row_ptr.now a.self.matrix.col_idx.now l.members l.pairs l.sources c.in-Some.r (before s) (came s).inside _ told) ∙ t));
+      value = handed _ _ c.from_residual.ensures.1 ∙ settle_stop a.self.local.region.len a.self.local.region.words.now a.self.local.rows.row_word_ptr.now a.self.local.rows.word_indices.now a.self.local.rows.masks.now a.self.matrix.row_ptr.now a.self.matrix.col_idx.now l.members l.rows c.in-Some.r (before s) (came s).inside _ told;
+      marks = λ t. absurd (refused-not-accepted _ (sym (stop_check a.self.local.region.len a.self.local.region.words.now a.self.local.rows.row_word_ptr.now a.self.local.rows.word_indices.now a.self.local.rows.masks.now a.self.matrix.row_ptr.now a.self.matrix.col_idx.now l.members l.rows c.in-Some.r (before s) (came s).inside _ told) ∙ t));
     }
 
 pub overflow_add-members : goal.overflow_add-members
@@ -54,19 +54,12 @@ overflow_add-members c =
     let s = (goal.at.overflow_add-members c).In-Some in
     omega (arith, (before s).members, count-le c.in-Some.r (in_mask c.args.self.local.region.words.now), (came s).inside, c.args.self.local.region.accepted.short)
 
-pub overflow_add-pairs : goal.overflow_add-pairs
-overflow_add-pairs c =
+pub add-rows-requires : goal.add-rows-requires
+add-rows-requires c =
     let a = c.args in
     let l = c.loop-r in
-    let s = (goal.at.overflow_add-pairs c).In-Some in
-    omega (arith, pairs_fit a.self.local.region.len a.self.local.region.words.now a.self.local.rows.row_word_ptr.now a.self.local.rows.word_indices.now a.self.local.rows.masks.now a.self.matrix.row_ptr.now a.self.matrix.col_idx.now l.members l.pairs l.sources c.in-Some.r (before s) (came s).inside _ (sym c.in_ok-row.was ∙ c.settle_row.ensures.value) c.args.self.local.square)
-
-pub overflow_add-sources : goal.overflow_add-sources
-overflow_add-sources c =
-    let a = c.args in
-    let l = c.loop-r in
-    let s = (goal.at.overflow_add-sources c).In-Some in
-    omega (arith, sources_fit a.self.local.region.len a.self.local.region.words.now a.self.local.rows.row_word_ptr.now a.self.local.rows.word_indices.now a.self.local.rows.masks.now a.self.matrix.row_ptr.now a.self.matrix.col_idx.now l.members l.pairs l.sources c.in-Some.r (before s) (came s).inside _ (sym c.in_ok-row.was ∙ c.settle_row.ensures.value) c.args.self.square)
+    let s = (goal.at.add-rows-requires c).In-Some in
+    settle_room a.self.local.region.len a.self.local.region.words.now a.self.local.rows.row_word_ptr.now a.self.local.rows.word_indices.now a.self.local.rows.masks.now a.self.matrix.row_ptr.now a.self.matrix.col_idx.now l.members l.rows c.in-Some.r (before s) (came s).inside _ (sym c.in_ok-row.was ∙ c.settle_row.ensures.value) a.self.local.square a.self.square
 
 pub mark_row-requires : goal.mark_row-requires
 mark_row-requires c = (is-of _ _ _ c.args.self.local.region.accepted.short c.loop-r.invariant.2, (came (goal.at.mark_row-requires c).In-Some).inside)
@@ -80,8 +73,8 @@ loop-r-preserved c =
     let told = sym c.in_ok-row.was ∙ c.settle_row.ensures.value in
     let next = (came s).next in (
       (came s).over,
-      settle_turn a.self.local.region.len a.self.local.region.words.now a.self.local.rows.row_word_ptr.now a.self.local.rows.word_indices.now a.self.local.rows.masks.now a.self.matrix.row_ptr.now a.self.matrix.col_idx.now l.members l.pairs l.sources c.in-Some.r (before s) test _ told _ next,
-      marks-turn a.self.local.region.len a.self.local.region.words.now (side_holds a.self.local.rows.row_word_ptr.now a.self.local.rows.word_indices.now a.self.local.rows.masks.now) l.paired _ c.in-Some.r _ _ (marked s) test ((before s).checked.member test) next (row_pairs a.self.local.region.len a.self.local.region.words.now a.self.local.rows.row_word_ptr.now a.self.local.rows.word_indices.now a.self.local.rows.masks.now a.self.matrix.row_ptr.now a.self.matrix.col_idx.now l.members l.pairs l.sources c.in-Some.r (before s) test _ told) c.mark_row.ensures,
+      settle_turn a.self.local.region.len a.self.local.region.words.now a.self.local.rows.row_word_ptr.now a.self.local.rows.word_indices.now a.self.local.rows.masks.now a.self.matrix.row_ptr.now a.self.matrix.col_idx.now l.members l.rows c.in-Some.r (before s) test _ told _ c.add-rows.ensures _ next,
+      marks-turn a.self.local.region.len a.self.local.region.words.now (side_holds a.self.local.rows.row_word_ptr.now a.self.local.rows.word_indices.now a.self.local.rows.masks.now) l.paired _ c.in-Some.r _ _ (marked s) test ((before s).checked.member test) next (row_pairs a.self.local.region.len a.self.local.region.words.now a.self.local.rows.row_word_ptr.now a.self.local.rows.word_indices.now a.self.local.rows.masks.now a.self.matrix.row_ptr.now a.self.matrix.col_idx.now l.members l.rows c.in-Some.r (before s) test _ told) c.mark_row.ensures,
       c.settle_row.ensures.seen_after,
     )
 
@@ -89,6 +82,6 @@ pub returns : goal.returns
 returns c =
     let a = c.args in
     let l = c.loop-r in record {
-      value = settle_last a.self.local.region.len a.self.local.region.words.now a.self.local.rows.row_word_ptr.now a.self.local.rows.word_indices.now a.self.local.rows.masks.now a.self.matrix.row_ptr.now a.self.matrix.col_idx.now l.members l.pairs l.sources _ l.invariant.1 (walk-ends _ _ c.loop-r.r-iterator c.loop-r.invariant.0 c.next.new.self c.in-None.ensures.steps);
+      value = settle_last a.self.local.region.len a.self.local.region.words.now a.self.local.rows.row_word_ptr.now a.self.local.rows.word_indices.now a.self.local.rows.masks.now a.self.matrix.row_ptr.now a.self.matrix.col_idx.now l.members l.rows _ l.invariant.1 (walk-ends _ _ c.loop-r.r-iterator c.loop-r.invariant.0 c.next.new.self c.in-None.ensures.steps);
       marks = λ t. marks-last a.self.local.region.len a.self.local.region.words.now (side_holds a.self.local.rows.row_word_ptr.now a.self.local.rows.word_indices.now a.self.local.rows.masks.now) l.paired _ l.invariant.2 (walk-ends _ _ c.loop-r.r-iterator c.loop-r.invariant.0 c.next.new.self c.in-None.ensures.steps);
     }

@@ -1,5 +1,5 @@
--- `binding::inner::System::settle_members` meets its contract. The invariant: the rows of the members before the one that comes next pass, are counted, and are marked where they
--- have a pair, and the mask of a row's entries is empty. Assumes nothing.
+-- `binding::inner::System::settle_members` meets its contract. The invariant: the rows of the members before the one that comes next pass, are
+-- counted, and are marked where they have a pair, and the mask of a row's entries is empty. Assumes nothing.
 use mathlib.Core.Path.{◌≡◌}
 use mathlib.Core.Bool.{false}
 use Rattle.mask.proofs.Nexts.{Over, coming}
@@ -12,5 +12,5 @@ use Rattle.binding.proofs.inner.System.settle_members.Given as goal
 abbrev pub invariant-loop-r : goal.invariant-loop-r
 invariant-loop-r l =
     Over l.self.local.region.len l.self.local.region.words.now l.r-iterator
-    × Settling l.self.local.region.len l.self.local.region.words.now l.self.local.rows.row_word_ptr.now l.self.local.rows.word_indices.now l.self.local.rows.masks.now l.self.matrix.row_ptr.now l.self.matrix.col_idx.now l.members l.pairs l.sources (coming l.self.local.region.len l.self.local.region.words.now l.r-iterator)
+    × Settling l.self.local.region.len l.self.local.region.words.now l.self.local.rows.row_word_ptr.now l.self.local.rows.word_indices.now l.self.local.rows.masks.now l.self.matrix.row_ptr.now l.self.matrix.col_idx.now l.members l.rows (coming l.self.local.region.len l.self.local.region.words.now l.r-iterator)
     × Marks l.self.local.region.len l.self.local.region.words.now (side_holds l.self.local.rows.row_word_ptr.now l.self.local.rows.word_indices.now l.self.local.rows.masks.now) l.paired (coming l.self.local.region.len l.self.local.region.words.now l.r-iterator) × (l.seen ≡ mask_words l.self.local.region.len (λ i. false))

@@ -1,4 +1,5 @@
--- `gather::inner::Plan::copy_sources` meets its contract. The invariant: the values of the first sources stand over the front of the lent list. Assumes nothing.
+-- `gather::inner::Plan::copy_sources` meets its contract. The invariant: the values of the first sources stand over the front of the lent list.
+-- Assumes nothing.
 use mathlib.Core.Path.{◌≡◌}
 use Rattle.base.specs.Lists.{written}
 use Rattle.gather.specs.Gather.{values_of}

@@ -1,4 +1,5 @@
--- `gather::inner::Plan::one_each` meets its contract. The scan's invariant: no step differs from one so far exactly where the pointers so far pass. Assumes nothing.
+-- `gather::inner::Plan::one_each` meets its contract. The scan's invariant: no step differs from one so far exactly where the pointers so far pass.
+-- Assumes nothing.
 use mathlib.Core.Path.{◌≡◌}
 use lib.Dec.{eqb}
 use lib.ListN.{take}

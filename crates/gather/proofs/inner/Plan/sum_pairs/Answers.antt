@@ -1,4 +1,5 @@
--- `gather::inner::Plan::sum_pairs` meets its contract. The invariant: the sums of the first pairs stand over the front of the lent list. Assumes nothing.
+-- `gather::inner::Plan::sum_pairs` meets its contract. The invariant: the sums of the first pairs stand over the front of the lent list. Assumes
+-- nothing.
 use mathlib.Core.Path.{sym, ◌∙◌}
 use Prim.Native.Nat.{◌+◌, ◌-◌}
 use native.Mathlib.Omega.{arith}

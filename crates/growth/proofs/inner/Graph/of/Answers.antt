@@ -2,12 +2,12 @@
 use Rattle.std.proofs.Common.{◌≡◌, refl, sym, ◌∙◌, subst, eq-eqb, ne_eqb}
 use Rattle.std.specs.Prelude.{Err, IfErr}
 use Rattle.base.proofs.Checks.{handed, group-pass, group-stop, last-pass, last-stop}
-use Rattle.growth.specs.Lent.{check_square}
+use Rattle.dual_topology.specs.Views.{check_square_topology}
 use Rattle.growth.proofs.inner.Graph.of.Goals as goal
 
 pub returns-in_err-topology-clause-refused : goal.returns-in_err-topology-clause-refused
 returns-in_err-topology-clause-refused c =
-    subst (λ r. IfErr r (λ e. check_square c.args.topology ≡ Err e)) (sym (handed c.from_residual.result _ c.from_residual.ensures.1)) (sym (group-stop _ _ _ c.in_err-topology.ensures.refused))
+    subst (λ r. IfErr r (λ e. check_square_topology c.args.topology ≡ Err e)) (sym (handed c.from_residual.result _ c.from_residual.ensures.1)) (sym (group-stop _ _ _ c.in_err-topology.ensures.refused))
 
 pub returns-then-n-topology-clause-refused : goal.returns-then-n-topology-clause-refused
 returns-then-n-topology-clause-refused c =

@@ -4,7 +4,7 @@ use Rattle.std.proofs.lemmas.Iterator.{YieldsList-from_range}
 use Rattle.std.proofs.lemmas.Iterator.Consumers.{YieldsList-from_filter, count_from_yields_List}
 use Rattle.multiplicity.specs.Views.{held}
 use Rattle.multiplicity.specs.Multiplicity.{multiplicity_of}
-use Rattle.multiplicity.proofs.Counts.{kept-range}
+use Rattle.base.proofs.Passes.{kept-range}
 use Rattle.multiplicity.proofs.inner.Regions.multiplicity.Goals as goal
 
 pub returns : goal.returns

@@ -18,7 +18,7 @@ use Rattle.sources.proofs.Inside.{put_same, put-placed}
 use Rattle.numeric_plan.specs.Steps.{row_entries}
 use Rattle.numeric_plan.proofs.Binding.{bound}
 use Rattle.numeric_plan.proofs.OneRow.{columns-stored, inside-length, chosen-rise, row-empty, row-local, row-joined, row-ended}
-use Rattle.numeric_plan.proofs.inner.Numbered.write_row.Goals.{After-write_counted-all, After-take_inside-next, After-write_row-last, Start}
+use Rattle.numeric_plan.proofs.inner.Numbered.write_row.Goals.{After-write_counted-source, After-take_inside-next, After-write_row-last, Start}
 use Rattle.numeric_plan.proofs.inner.Numbered.write_row.Goals as goal
 
 module _ (s : Start) where
@@ -142,38 +142,38 @@ invariant_of-pairs c =
     let a = c.args.self in
     record { rising = row-local a.bound.system.local.region.len a.bound.system.local.region.words.now a.ranks.now a.nodes.now a.filled (pairs (goal.at.invariant_of-pairs c).Start) c.args.r c.args.first c.args.local_cols.now _ c.requires.2.pairs c.write_row-last.ensures.cols_after _ (last (goal.at.invariant_of-pairs c).After-write_row-last) }
 
-pub write_counted-all-requires : goal.write_counted-all-requires
-write_counted-all-requires c =
+pub write_counted-source-requires : goal.write_counted-source-requires
+write_counted-source-requires c =
     let a = c.args.self in
     let q = c.requires.2 in
-    let z = (goal.at.write_counted-all-requires c).Start in
-    let end-of = last (goal.at.write_counted-all-requires c).After-write_row-last in
+    let z = (goal.at.write_counted-source-requires c).Start in
+    let end-of = last (goal.at.write_counted-source-requires c).After-write_row-last in
     let joined = row-joined a.bound.system.local.region.len a.bound.system.local.region.words.now a.ranks.now a.nodes.now a.filled (pairs z) c.args.r c.args.first c.args.local_cols.now _ q.pairs c.write_row-last.ensures.cols_after _ end-of a.bound.system.matrix.col_idx.now (start z) (end z) in
     (omega (arith, end-of, q.pointers), omega (arith, ap length joined, q.within, q.inside, c.take_inside-next.ensures.put.long), omega (arith, ap length joined, q.within, q.small))
 
 -- what the counting wrote
-module _ (c : After-write_counted-all) where
+module _ (c : After-write_counted-source) where
   abbrev b : Start
-  b = (goal.at.After-write_counted-all c).Start
+  b = (goal.at.After-write_counted-source c).Start
 
   joined : join_below (c.write_row-last.result - b.args.first) (pair_at b.args.self.bound.system.matrix.col_idx.now (start b) (end b) b.args.self.nodes.now c.write_row-last.new.cols b.args.first) ≡ join_below (length (columns b)) (row_entries b.args.self.bound.system.local.region.len (region b) (pairs b) b.args.self.bound.system.matrix.row_ptr.now b.args.self.bound.system.matrix.col_idx.now b.args.r)
-  joined = row-joined b.args.self.bound.system.local.region.len b.args.self.bound.system.local.region.words.now b.args.self.ranks.now b.args.self.nodes.now b.args.self.filled (pairs b) b.args.r b.args.first b.args.local_cols.now _ b.requires.2.pairs c.write_row-last.ensures.cols_after _ (last (goal.at.After-write_counted-all c).After-write_row-last) b.args.self.bound.system.matrix.col_idx.now (start b) (end b)
+  joined = row-joined b.args.self.bound.system.local.region.len b.args.self.bound.system.local.region.words.now b.args.self.ranks.now b.args.self.nodes.now b.args.self.filled (pairs b) b.args.r b.args.first b.args.local_cols.now _ b.requires.2.pairs c.write_row-last.ensures.cols_after _ (last (goal.at.After-write_counted-source c).After-write_row-last) b.args.self.bound.system.matrix.col_idx.now (start b) (end b)
 
   ended : ends_from b.args.at (c.write_row-last.result - b.args.first) (pair_at b.args.self.bound.system.matrix.col_idx.now (start b) (end b) b.args.self.nodes.now c.write_row-last.new.cols b.args.first) ≡ ends_from b.args.at (length (columns b)) (row_entries b.args.self.bound.system.local.region.len (region b) (pairs b) b.args.self.bound.system.matrix.row_ptr.now b.args.self.bound.system.matrix.col_idx.now b.args.r)
-  ended = row-ended b.args.self.bound.system.local.region.len b.args.self.bound.system.local.region.words.now b.args.self.ranks.now b.args.self.nodes.now b.args.self.filled (pairs b) b.args.r b.args.first b.args.local_cols.now _ b.requires.2.pairs c.write_row-last.ensures.cols_after _ (last (goal.at.After-write_counted-all c).After-write_row-last) b.args.self.bound.system.matrix.col_idx.now (start b) (end b) b.args.at
+  ended = row-ended b.args.self.bound.system.local.region.len b.args.self.bound.system.local.region.words.now b.args.self.ranks.now b.args.self.nodes.now b.args.self.filled (pairs b) b.args.r b.args.first b.args.local_cols.now _ b.requires.2.pairs c.write_row-last.ensures.cols_after _ (last (goal.at.After-write_counted-source c).After-write_row-last) b.args.self.bound.system.matrix.col_idx.now (start b) (end b) b.args.at
 
-  rest : Put b.args.at b.args.self.bound.terms (join_below (length (columns b)) (row_entries b.args.self.bound.system.local.region.len (region b) (pairs b) b.args.self.bound.system.matrix.row_ptr.now b.args.self.bound.system.matrix.col_idx.now b.args.r)) b.args.sources.now c.write_counted-all.new.sources
+  rest : Put b.args.at b.args.self.bound.terms (join_below (length (columns b)) (row_entries b.args.self.bound.system.local.region.len (region b) (pairs b) b.args.self.bound.system.matrix.row_ptr.now b.args.self.bound.system.matrix.col_idx.now b.args.r)) b.args.sources.now c.write_counted-source.new.sources
   rest =
-      put-placed b.args.at b.args.self.bound.terms (chosen b) _ b.args.sources.now c.take_inside-next.new.sources c.write_counted-all.new.sources b.requires.2.within b.requires.2.inside c.take_inside-next.ensures.put
-      (c.write_counted-all.ensures.sources_after ∙ ap (λ (l : List ℕ). placed b.args.at l c.take_inside-next.new.sources) joined)
+      put-placed b.args.at b.args.self.bound.terms (chosen b) _ b.args.sources.now c.take_inside-next.new.sources c.write_counted-source.new.sources b.requires.2.within b.requires.2.inside c.take_inside-next.ensures.put
+      (c.write_counted-source.ensures.sources_after ∙ ap (λ (l : List ℕ). placed b.args.at l c.take_inside-next.new.sources) joined)
 
 pub returns : goal.returns
 returns c =
     let a = c.args in
     let put = c.write_row-last.ensures.cols_after in
-    let g = c.write_counted-all.ensures in record {
-      pair_value = (last (goal.at.returns c).After-write_row-last, g.value ∙ ap (λ (l : List ℕ). a.at + length l) (joined (goal.at.returns c).After-write_counted-all));
+    let g = c.write_counted-source.ensures in record {
+      pair_value = (last (goal.at.returns c).After-write_row-last, g.value ∙ ap (λ (l : List ℕ). a.at + length l) (joined (goal.at.returns c).After-write_counted-source));
       columns = put;
-      starts = g.source_ptr_after ∙ ap (λ (l : List ℕ). placed (a.first + 1) l a.source_ptr.now) (ended (goal.at.returns c).After-write_counted-all);
-      entries = rest (goal.at.returns c).After-write_counted-all;
+      starts = g.source_ptr_after ∙ ap (λ (l : List ℕ). placed (a.first + 1) l a.source_ptr.now) (ended (goal.at.returns c).After-write_counted-source);
+      entries = rest (goal.at.returns c).After-write_counted-source;
     }

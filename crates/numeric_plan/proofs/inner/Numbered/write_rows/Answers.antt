@@ -24,20 +24,20 @@ use Rattle.numeric_plan.proofs.inner.Numbered.write_rows.Goals as goal
 
 -- the members' numbers are the front of their list
 front : (s : Start) → length (take s.args.members s.args.self.nodes.now) ≡ s.args.members
-front s = length-take-le s.args.members s.args.self.nodes.now (omega (arith, s.requires.0, s.args.self.filled.nodes_long))
+front s = length-take-le s.args.members s.args.self.nodes.now (omega (arith, s.requires.all, s.args.self.filled.nodes_long))
 
 -- row k has a member
 some : (c : In-loop-k) → c.loop-k.k < count_below c.args.self.bound.system.local.region.len (in_mask c.args.self.bound.system.local.region.words.now)
-some c = omega (arith, c.loop-k-test.true, c.requires.0, front (goal.at.In-loop-k c).Start)
+some c = omega (arith, c.loop-k-test.true, c.requires.all, front (goal.at.In-loop-k c).Start)
 
 -- its node, which is below n
 node : (c : In-loop-k) → get_or (take c.args.members c.args.self.nodes.now) c.loop-k.k 0 ≡ member_at c.args.self.bound.system.local.region.len (in_mask c.args.self.bound.system.local.region.words.now) c.loop-k.k
-node c = get_or-take c.args.members c.args.self.nodes.now c.loop-k.k 0 (omega (arith, some c, c.requires.0)) ∙ c.args.self.filled.nodes_at c.loop-k.k (some c)
+node c = get_or-take c.args.members c.args.self.nodes.now c.loop-k.k 0 (omega (arith, some c, c.requires.all)) ∙ c.args.self.filled.nodes_at c.loop-k.k (some c)
 
 pub loop-k-init : goal.loop-k-init
 loop-k-init c =
     let a = c.args in
-    rows_none a.self.bound.system.local.region.len (in_mask a.self.bound.system.local.region.words.now) (side_holds a.self.bound.system.local.rows.row_word_ptr.now a.self.bound.system.local.rows.word_indices.now a.self.bound.system.local.rows.masks.now) a.self.bound.system.matrix.row_ptr.now a.self.bound.system.matrix.col_idx.now a.local_ptr.now a.local_cols.now a.source_ptr.now a.sources.now (omega (arith, c.requires.1)) (omega (arith, c.requires.3))
+    rows_none a.self.bound.system.local.region.len (in_mask a.self.bound.system.local.region.words.now) (side_holds a.self.bound.system.local.rows.row_word_ptr.now a.self.bound.system.local.rows.word_indices.now a.self.bound.system.local.rows.masks.now) a.self.bound.system.matrix.row_ptr.now a.self.bound.system.matrix.col_idx.now a.local_ptr.now a.local_cols.now a.source_ptr.now a.sources.now (omega (arith, c.requires.fits.pointers)) (omega (arith, c.requires.fits.source_pointers))
 
 pub write_row-end-requires : goal.write_row-end-requires
 write_row-end-requires c =
@@ -53,7 +53,7 @@ write_row-end-requires c =
       low,
       member,
       subst (λ (x : ℕ). RowRoom (columns_of a.self.bound.system.local.region.len p s (get_or (take a.members a.self.nodes.now) l.k 0)) (row_entries a.self.bound.system.local.region.len p s a.self.bound.system.matrix.row_ptr.now a.self.bound.system.matrix.col_idx.now (get_or (take a.members a.self.nodes.now) l.k 0)) l.pair l.source x l.local_cols l.source_ptr l.sources) (sym c.args.self.bound.counted)
-          (rows_room a.self.bound.system.local.region.len p s a.self.bound.system.matrix.row_ptr.now a.self.bound.system.matrix.col_idx.now (set a.local_ptr.now 0 0) a.local_cols.now (set a.source_ptr.now 0 0) a.sources.now l.local_ptr l.local_cols l.source_ptr l.sources l.pair l.source l.k l.invariant (some (goal.at.write_row-end-requires c).In-loop-k) _ d (omega (arith, q.2)) (omega (arith, q.3, length-set a.source_ptr.now 0 0)) (omega (arith, c.args.self.bound.counted, q.4)) (sources-within a.self.bound.system.local.region.len p s a.self.bound.system.matrix.row_ptr.now a.self.bound.system.matrix.col_idx.now c.args.self.bound.system.square c.args.self.bound.binds)),
+          (rows_room a.self.bound.system.local.region.len p s a.self.bound.system.matrix.row_ptr.now a.self.bound.system.matrix.col_idx.now (set a.local_ptr.now 0 0) a.local_cols.now (set a.source_ptr.now 0 0) a.sources.now l.local_ptr l.local_cols l.source_ptr l.sources l.pair l.source l.k l.invariant (some (goal.at.write_row-end-requires c).In-loop-k) _ d (omega (arith, q.fits.columns)) (omega (arith, q.fits.source_pointers, length-set a.source_ptr.now 0 0)) (omega (arith, c.args.self.bound.counted, q.fits.entry_sources)) (sources-within a.self.bound.system.local.region.len p s a.self.bound.system.matrix.row_ptr.now a.self.bound.system.matrix.col_idx.now c.args.self.bound.system.square c.args.self.bound.binds)),
     )
 
 pub overflow_cast-local_ptr : goal.overflow_cast-local_ptr
@@ -67,7 +67,7 @@ overflow_cast-local_ptr c =
       arith,
       c.write_row-end.ensures.pair_value.0,
       rows_pairs a.self.bound.system.local.region.len p s a.self.bound.system.matrix.row_ptr.now a.self.bound.system.matrix.col_idx.now (set a.local_ptr.now 0 0) a.local_cols.now (set a.source_ptr.now 0 0) a.sources.now l.local_ptr l.local_cols l.source_ptr l.sources l.pair l.source l.k l.invariant (some (goal.at.overflow_cast-local_ptr c).In-loop-k) _ (node (goal.at.overflow_cast-local_ptr c).In-loop-k),
-      (kept_small a.self.bound.system.local.region.len a.self.bound.system.local.rows.row_word_ptr.now a.self.bound.system.local.rows.word_indices.now a.self.bound.system.local.rows.masks.now c.args.self.bound.system.local.square p).few_kept,
+      (kept_small a.self.bound.system.local.region.len a.self.bound.system.local.rows.row_word_ptr.now a.self.bound.system.local.rows.word_indices.now a.self.bound.system.local.rows.masks.now c.args.self.bound.system.local.square p).rows.few_kept,
     )
 
 pub loop-k-preserved : goal.loop-k-preserved
@@ -78,7 +78,7 @@ loop-k-preserved c =
     let p = in_mask a.self.bound.system.local.region.words.now in
     let s = side_holds a.self.bound.system.local.rows.row_word_ptr.now a.self.bound.system.local.rows.word_indices.now a.self.bound.system.local.rows.masks.now in
     let g = c.write_row-end.ensures in
-    rows_next a.self.bound.system.local.region.len p s a.self.bound.system.matrix.row_ptr.now a.self.bound.system.matrix.col_idx.now (set a.local_ptr.now 0 0) a.local_cols.now (set a.source_ptr.now 0 0) a.sources.now l.local_ptr l.local_cols l.source_ptr l.sources l.pair l.source l.k l.invariant (some (goal.at.loop-k-preserved c).In-loop-k) _ (node (goal.at.loop-k-preserved c).In-loop-k) (omega (arith, q.0, q.1, length-set a.local_ptr.now 0 0)) _ c.args.self.bound.counted _ _ _ _ _ g.pair_value.0 g.pair_value.1 g.columns g.starts g.entries
+    rows_next a.self.bound.system.local.region.len p s a.self.bound.system.matrix.row_ptr.now a.self.bound.system.matrix.col_idx.now (set a.local_ptr.now 0 0) a.local_cols.now (set a.source_ptr.now 0 0) a.sources.now l.local_ptr l.local_cols l.source_ptr l.sources l.pair l.source l.k l.invariant (some (goal.at.loop-k-preserved c).In-loop-k) _ (node (goal.at.loop-k-preserved c).In-loop-k) (omega (arith, q.all, q.fits.pointers, length-set a.local_ptr.now 0 0)) _ c.args.self.bound.counted _ _ _ _ _ g.pair_value.0 g.pair_value.1 g.columns g.starts g.entries
 
 pub returns : goal.returns
 returns c =
@@ -87,7 +87,7 @@ returns c =
     let p = in_mask a.self.bound.system.local.region.words.now in
     let s = side_holds a.self.bound.system.local.rows.row_word_ptr.now a.self.bound.system.local.rows.word_indices.now a.self.bound.system.local.rows.masks.now in
     let x = pair_entries a.self.bound.system.local.region.len p s a.self.bound.system.matrix.row_ptr.now a.self.bound.system.matrix.col_idx.now in
-    let all = rows_all a.self.bound.system.local.region.len p s a.self.bound.system.matrix.row_ptr.now a.self.bound.system.matrix.col_idx.now (set a.local_ptr.now 0 0) a.local_cols.now (set a.source_ptr.now 0 0) a.sources.now l.local_ptr l.local_cols l.source_ptr l.sources l.pair l.source l.k l.invariant (omega (arith, c.requires.0, front (goal.at.returns c).Start)) (omega (arith, c.args.self.bound.counted, c.requires.4)) l.auto.sources in record {
+    let all = rows_all a.self.bound.system.local.region.len p s a.self.bound.system.matrix.row_ptr.now a.self.bound.system.matrix.col_idx.now (set a.local_ptr.now 0 0) a.local_cols.now (set a.source_ptr.now 0 0) a.sources.now l.local_ptr l.local_cols l.source_ptr l.sources l.pair l.source l.k l.invariant (omega (arith, c.requires.all, front (goal.at.returns c).Start)) (omega (arith, c.args.self.bound.counted, c.requires.fits.entry_sources)) l.auto.sources in record {
       pointers = all.0 ∙ over_first (pattern_ptr a.self.bound.system.local.region.len p s) a.local_ptr.now 0 (omega (arith, ptr-length a.self.bound.system.local.region.len s p));
       columns = all.1;
       starts = all.2 ∙ over_first (plan_ptr x) a.source_ptr.now 0 (omega (arith, pointers-length x));

@@ -7,4 +7,4 @@ use Rattle.pattern.proofs.inner.Local.count.Given as goal
 abbrev pub invariant-loop-r : goal.invariant-loop-r
 invariant-loop-r l =
     Over l.self.region.len l.self.region.words.now l.r-iterator
-    × Walked l.self.region.len (side_holds l.self.rows.row_word_ptr.now l.self.rows.word_indices.now l.self.rows.masks.now) l.self.region.words.now l.members l.words l.candidates l.kept (coming l.self.region.len l.self.region.words.now l.r-iterator)
+    × Walked l.self.region.len (side_holds l.self.rows.row_word_ptr.now l.self.rows.word_indices.now l.self.rows.masks.now) l.self.region.words.now l.members l.rows (coming l.self.region.len l.self.region.words.now l.r-iterator)

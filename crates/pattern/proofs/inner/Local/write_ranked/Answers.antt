@@ -39,7 +39,7 @@ pub overflow_cast-row_ptr : goal.overflow_cast-row_ptr
 overflow_cast-row_ptr c =
     let s = (goal.at.overflow_cast-row_ptr c).In-Some in
     let within : c.write_row-next.result ≤ pairs_inside c.args.self.region.len (in_mask c.args.self.region.words.now) (pairs c.args.self.rows) = rw c.write_row-next.ensures.value ((before s).room (came s).inside) in
-    omega (arith, within, (kept_small _ _ _ _ c.args.self.square (in_mask c.args.self.region.words.now)).few_kept)
+    omega (arith, within, (kept_small _ _ _ _ c.args.self.square (in_mask c.args.self.region.words.now)).rows.few_kept)
 
 pub loop-k-preserved : goal.loop-k-preserved
 loop-k-preserved c =

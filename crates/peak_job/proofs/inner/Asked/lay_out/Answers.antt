@@ -2,18 +2,15 @@
 use mathlib.Core.Path.{◌≡◌, ap, ap₂, ◌∙◌}
 use Rattle.base.specs.Checks.{Check}
 use mathlib.Core.List.{List}
-use Prim.Native.Nat.{ℕ, suc, ◌+◌, ◌-◌}
+use Prim.Native.Nat.{ℕ, suc, ◌+◌}
 use native.Mathlib.Omega.{arith}
 use lib.Ieee.{of_bits}
 use lib.ListN.{length, take, replicate, length-replicate}
 use Rattle.base.specs.Checks.{◌then◌}
-use Rattle.base.specs.Lists.{list_from}
 use Rattle.base.proofs.Lists.{over-own, take-replicate, take-list_from}
 use Rattle.csr32.specs.Matrix.{matrix_check}
 use Rattle.dof_layout.specs.Layout.{offsets_of}
 use Rattle.dof_layout.specs.Answers.{square_check}
-use Rattle.dof_layout.specs.Views.{check_square}
-use Rattle.dof_layout.specs.declared.FieldAwareDofLayout.{FieldAwareDofLayout}
 use Rattle.dof_layout.proofs.Layouts.{offsets-length}
 use Rattle.pattern.specs.Pattern.{one}
 use Rattle.job_text.specs.Answer.{text_answer, text_left}
@@ -32,22 +29,17 @@ returns c =
     let cols = c.args.self.cols.now in
     let blocks = c.args.self.blocks.now in
     let B : ℕ = length blocks in
-    let none : B - 0 ≡ B = omega arith in
-    let whole : length cols - 0 ≡ length cols = omega arith in
-    let last : B + 1 - 0 ≡ suc B = omega arith in
-    let v : take (length cols - 0) (replicate 1024 one) ≡ values_of cols = ap (λ (k : ℕ). take k (replicate 1024 one)) whole ∙ take-replicate (length cols) 1024 one (omega (arith, c.args.self.few.2)) in
-    let k : take (B - 0) (replicate {A = ℕ} 1024 1) ≡ kinds_of blocks = ap (λ (m : ℕ). take m (replicate {A = ℕ} 1024 1)) none ∙ take-replicate {A = ℕ} B 1024 1 (omega (arith, c.args.self.few.1)) in
-    let f : take (B - 0) (replicate {A = ℕ} 1024 0) ≡ fields_of blocks = ap (λ (m : ℕ). take m (replicate {A = ℕ} 1024 0)) none ∙ take-replicate {A = ℕ} B 1024 0 (omega (arith, c.args.self.few.1)) in
-    let long : length (replicate {A = ℕ} 1024 0) ≡ 1024 = length-replicate {A = ℕ} 1024 0 in
-    let i : take (B - 0) c.number.new.ids ≡ ids_of blocks =
-    ap₂ (λ (m : ℕ) (l : List ℕ). take m l) none (c.number.ensures ∙ ap (λ (m : ℕ). list_from (λ (b : ℕ). b) m 0) long) ∙ take-list_from (λ (b : ℕ). b) B 1024 0 (omega (arith, c.args.self.few.1)) in
-    let o : take (B + 1 - 0) c.write_offsets.new.offsets ≡ offsets_of blocks =
+    let last : B + 1 ≡ suc B = omega arith in
+    let v : take (length cols) (replicate 1024 one) ≡ values_of cols = take-replicate (length cols) 1024 one (omega (arith, c.args.self.few.2)) in
+    let k : take B (replicate {A = ℕ} 1024 1) ≡ kinds_of blocks = take-replicate {A = ℕ} B 1024 1 (omega (arith, c.args.self.few.1)) in
+    let f : take B (replicate {A = ℕ} 1024 0) ≡ fields_of blocks = take-replicate {A = ℕ} B 1024 0 (omega (arith, c.args.self.few.1)) in
+    let i : take B c.numbers-ids.result ≡ ids_of blocks =
+    ap (take B) c.numbers-ids.ensures ∙ take-list_from (λ (b : ℕ). b) B 1024 0 (omega (arith, c.args.self.few.1)) in
+    let o : take (B + 1) c.write_offsets.new.offsets ≡ offsets_of blocks =
     ap₂ (λ (m : ℕ) (l : List ℕ). take m l) last c.write_offsets.ensures ∙ over-own (offsets_of blocks) _ (suc B) (offsets-length blocks) in
-    let same : (matrix_check n n ptr cols (take (length cols - 0) (replicate 1024 one)) then square_check (take (B - 0) (replicate {A = ℕ} 1024 1)) (take (B - 0) c.number.new.ids) (take (B - 0) (replicate {A = ℕ} 1024 0)) blocks (take (B + 1 - 0) c.write_offsets.new.offsets) n n) ≡ laid_check n blocks ptr cols =
+    let same : (matrix_check n n ptr cols (take (length cols) (replicate 1024 one)) then square_check (take B (replicate {A = ℕ} 1024 1)) (take B c.numbers-ids.result) (take B (replicate {A = ℕ} 1024 0)) blocks (take (B + 1) c.write_offsets.new.offsets) n n) ≡ laid_check n blocks ptr cols =
     λ j. matrix_check n n ptr cols (v j) then square_check (k j) (i j) (f j) blocks (o j) n n in
-    let of : FieldAwareDofLayout → List ℕ =
-    λ l. text_of (matrix_check n n ptr cols (take (length cols - 0) (replicate 1024 one)) then check_square l n n) (region_text n ptr cols l.blocks.components.now c.args.words.now c.args.self.hops) in
     let t : List ℕ = region_text n ptr cols blocks c.args.words.now c.args.self.hops in record {
-      value = c.cut.ensures.value ∙ ap (λ (l : FieldAwareDofLayout). text_answer (of l) c.args.out.now) c.layout-laid.ensures ∙ ap (λ (x : Check). text_answer (text_of x t) c.args.out.now) same;
-      out_after = c.cut.ensures.out_after ∙ ap (λ (l : FieldAwareDofLayout). text_left (of l) c.args.out.now) c.layout-laid.ensures ∙ ap (λ (x : Check). text_left (text_of x t) c.args.out.now) same;
+      value = c.cut.ensures.value ∙ ap (λ (x : Check). text_answer (text_of x t) c.args.out.now) same;
+      out_after = c.cut.ensures.out_after ∙ ap (λ (x : Check). text_left (text_of x t) c.args.out.now) same;
     }

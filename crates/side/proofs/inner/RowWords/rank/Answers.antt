@@ -1,27 +1,27 @@
-use Rattle.std.proofs.Common.{ap, ◌∙◌, ◌+◌, ◌-◌, ◌*◌, ◌^◌, ◌%◌, ℕ, arith, get_or, lt_of_le_of_lt}
+-- `side::inner::RowWords::rank` meets its contract. Assumes nothing.
+use Rattle.std.proofs.Common.{ap₂, ◌∙◌, ◌+◌, ◌%◌, arith}
+use lib.ListN.{get_or}
 use native.Mathlib.Nat.{le_refl}
-use lib.Bits.{bit_and, and_le_l}
-use lib.Count.{ones, ones-le}
+use Rattle.base.proofs.Sets.{count-le}
+use Rattle.word.specs.Bits.{bit_at}
 use Rattle.side.proofs.AtRow.{long, words-row}
 use Rattle.side.proofs.Sides.{bits-le}
 use Rattle.side.proofs.Ranks.{rank-word, rank-none}
-use Rattle.side.proofs.inner.RowWords.rank.Goals.{else-at-to-via-then-at-to+else-self-at, else-at-to-via-else-at-to}
 use Rattle.side.proofs.inner.RowWords.rank.Goals as goal
 
 pub overflow_add-result : goal.overflow_add-result
 overflow_add-result c =
-    let m : ℕ = get_or c.args.self.masks.now c.lower-at.result 0 in
-    let x : ℕ = (1 * 2 ^ (c.args.col % 64)) % 2 ^ 64 - 1 in
-    omega (arith, c.lower-at.ensures.around.high, c.args.self.accepted.few_words, c.count_bits-before.ensures, bits-le c.args.self.masks.now 0 c.lower-at.result, ones-le 64 (bit_and m x) (lt_of_le_of_lt (and_le_l m x) (c.args.self.accepted.fits c.lower-at.result c.if-at-to.true)))
+    let s = c.args.self in
+    omega (arith, c.in-Ok.ensures.found.0, s.accepted.few_words, c.count_bits.ensures, bits-le s.masks.now 0 c.in-Ok.at, c.rank-below.ensures, count-le (c.args.col % 64) (bit_at (get_or s.masks.now c.in-Ok.at 0)))
 
-pub returns-then-self-at : goal.returns-then-self-at
-returns-then-self-at c =
+pub returns-in-Ok : goal.returns-in-Ok
+returns-in-Ok c =
     let m = c.args.self.accepted in
-    ap (λ (n : ℕ). n + ones (bit_and (get_or c.args.self.masks.now c.lower-at.result 0) ((1 * 2 ^ (c.args.col % 64)) % 2 ^ 64 - 1))) c.count_bits-before.ensures
-    ∙ rank-word _ _ _ _ _ (words-row _ _ _ m) (long _ _ _ m) (le_refl _) _ _ c.lower-at.ensures.around.low c.if-at-to.true c.if-self-at.true
+    let f = c.in-Ok.ensures.found in
+    ap₂ ◌+◌ c.count_bits.ensures c.rank-below.ensures ∙ rank-word _ _ _ _ _ (words-row _ _ _ m) (long _ _ _ m) (le_refl _) _ _ (omega arith) f.0 f.1
 
-pub returns : goal.returns
-returns c =
+pub returns-in-Err : goal.returns-in-Err
+returns-in-Err c =
     let m = c.args.self.accepted in
-    c.count_bits-before.ensures
-    ∙ rank-none _ _ _ _ _ (words-row _ _ _ m) (long _ _ _ m) (le_refl _) _ _ c.lower-at.ensures.around (λ l e. elim c.else-at-to.branch [ else-at-to-via-then-at-to+else-self-at w ↦ omega arith | else-at-to-via-else-at-to w ↦ omega arith ])
+    let f = c.in-Err.ensures.missing in
+    c.count_bits-in-Err.ensures ∙ rank-none _ _ _ _ _ (words-row _ _ _ m) (long _ _ _ m) (le_refl _) _ _ f.0 f.1

@@ -10,7 +10,7 @@ use Rattle.text_writing.proofs.Lists.{placed-ahead}
 use Rattle.text_writing.proofs.inner.U64Text.put.Goals as goal
 
 pub loop-place-init : goal.loop-place-init
-loop-place-init c = (refl, refl, refl, (decimal c.args.self, [], inl refl, ap (λ k. c.args.out.now.len + k) c.decimal_length.ensures, sym (append-nil _), sym (placed-none _ _)))
+loop-place-init c = (refl, refl, refl, (decimal c.args.self, [], inl refl, ap (λ k. c.args.out.now.len + k) c.length.ensures, sym (append-nil _), sym (placed-none _ _)))
 
 pub loop-place-preserved : goal.loop-place-preserved
 loop-place-preserved c =
@@ -23,5 +23,5 @@ loop-place-preserved c =
       l.invariant.0,
       l.invariant.1,
       length-set _ _ _ ∙ l.invariant.2,
-      (t.0, d ∷ i.1, t.1, t.2, t.3, cc (i.5, before, placed-ahead (l.place - 1) i.1 o d (omega (arith, l.auto.place, c.decimal_length.ensures, c.requires)))),
+      (t.0, d ∷ i.1, t.1, t.2, t.3, cc (i.5, before, placed-ahead (l.place - 1) i.1 o d (omega (arith, l.auto.place, c.length.ensures, c.requires)))),
     )
