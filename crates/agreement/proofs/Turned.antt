@@ -6,7 +6,7 @@ use native.Mathlib.Omega.{arith}
 use lib.Dec.{T}
 use Rattle.base.specs.Sets.{every_below, one_if, count_below}
 use Rattle.base.proofs.Bools.{bool-ext, T_true, T_of}
-use Rattle.base.proofs.Sets.{every-i, every-e, sum-swap, sum-tight, one-if-mono, count-mono}
+use Rattle.base.proofs.Sets.{every-i, every-e, sum-swap, sum-cong, sum-tight, one-if-mono, count-cong, count-mono}
 use Rattle.side.specs.Side.{flip, pair_count}
 use Rattle.agreement.specs.Agreement.{same, turned, within}
 
@@ -48,6 +48,12 @@ module _ (nrows ncols : ℕ) (R C : ℕ → ℕ → Bool) where
   pub pair-turned : ((r c : ℕ) → r < nrows → c < ncols → C c r ≡ R r c) → turned nrows ncols R C ≡ true
   unfolding turned
   pair-turned h = T_true _ (every-i nrows (λ r. every_below ncols (λ c. same (R r c) (C c r))) (λ r hr. every-i ncols (λ c. same (R r c) (C c r)) (λ c hc. same-i (R r c) (C c r) (h r c hr hc))))
+
+  -- it has as many pairs
+  pub turned-count : turned nrows ncols R C ≡ true → pair_count nrows ncols R ≡ pair_count ncols nrows C
+  turned-count e =
+      sum-swap nrows ncols (λ r c. one_if (R r c))
+      ∙ sum-cong ncols (λ c. count_below nrows (λ r. R r c)) (λ c. count_below nrows (C c)) (λ c hc. count-cong nrows (λ r. R r c) (C c) (λ r hr. sym (turned_pair e r c hr hc)))
 
   -- as many pairs, and every pair of the rows is one of the columns
   pub turned_round : pair_count nrows ncols R ≡ pair_count ncols nrows C → ((r c : ℕ) → r < nrows → c < ncols → T (R r c) → T (C c r)) → (r c : ℕ) → r < nrows → c < ncols → C c r ≡ R r c

@@ -8,7 +8,7 @@ use Rattle.binding.specs.declared.inner.System.{System}
 use Rattle.binding.specs.declared.RowCounts.{RowCounts}
 use Rattle.binding.specs.declared.Counts.{Counts}
 use Rattle.binding.specs.Binding.{row_faults, binding_check}
-use Rattle.binding.specs.Steps.{Followed, has_pair, row_counts, row_sources, counts_of}
+use Rattle.binding.specs.Steps.{Followed, has_pair, row_counts, counts_of}
 
 -- 23 and 24 by local row
 abbrev pub check_binding : System → Check
@@ -28,10 +28,6 @@ row_held s r = row_counts s.local.region.len (nodes s.local.region) (pairs s.loc
 -- what is said of row r where its words are its entries
 abbrev pub FollowedRow : System → ℕ → Option RowCounts → Type 0
 FollowedRow s r k = Followed s.local.region.len (nodes s.local.region) (pairs s.local.rows) s.matrix.row_ptr.now s.matrix.col_idx.now r k
-
--- how many of row r's entries have their column inside
-abbrev pub row_inside : System → ℕ → ℕ
-row_inside s r = row_sources (nodes s.local.region) s.matrix.row_ptr.now s.matrix.col_idx.now r
 
 -- member r's row has a pair inside
 abbrev pub paired_row : System → ℕ → Bool

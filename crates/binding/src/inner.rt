@@ -13,12 +13,13 @@ ghost use Rattle.csr32.specs.Views.{entries, columns_of_row};
 ghost use Rattle.side.specs.Views.{pairs};
 ghost use Rattle.pattern.specs.Pattern.{inside};
 ghost use Rattle.pattern.specs.Steps.{region_kept};
-ghost use Rattle.binding.specs.Steps.{RunOf, sources_inside};
+ghost use Rattle.binding.specs.Steps.{RunOf, row_sources, sources_inside};
 
 use crate::{Counts, RowCounts, Run};
 use base::Refusal;
 use csr32::inner::Matrix;
 use mask::LARGEST_WORDS;
+use mask::inner::Mask;
 use pattern::RegionKept;
 use pattern::inner::Local;
 use word::AbtmTopologyWord;
@@ -65,8 +66,34 @@ fn take_word(col_idx: &[u32], from: usize, to: usize, word: usize, inside: u64) 
     }
 }
 
+// How many of row r's entries have their column inside the region.
+fn count_inside(region: Mask, matrix: Matrix, r: usize) -> usize
+    requires { IsMatrix region.len region.len matrix.row_ptr.now matrix.col_idx.now × (r < region.len) }
+    ensures { result ≡ row_sources (nodes region.entry) matrix.entry.row_ptr.now matrix.entry.col_idx.now r }
+{
+    matrix
+        .row_columns(r)
+        .iter()
+        .filter(|column| region.holds(**column as usize))
+        .count()
+}
+
+// How many entries of the members' rows have their column inside the region. By `map` and `sum` it was tried: left were what the closure asks of
+// each member and that the sum fits, since no law says which list the members' iterator yields.
+#[tactic(auto, using(crate::proofs::Sources::rows))]
+pub fn count_sources(region: Mask, matrix: Matrix) -> usize
+    requires { IsMatrix region.len region.len matrix.row_ptr.now matrix.col_idx.now }
+    ensures { result ≡ sources_inside region.entry.len (nodes region.entry) matrix.entry.row_ptr.now matrix.entry.col_idx.now }
+{
+    let mut sources: usize = 0;
+    for r in region.members() {
+        sources += count_inside(region, matrix, r);
+    }
+    sources
+}
+
 impl System<'_> {
-    ghost use Rattle.binding.specs.Views.{check_binding, row_check, held, row_held, FollowedRow, row_inside, paired_row};
+    ghost use Rattle.binding.specs.Views.{check_binding, row_check, held, row_held, FollowedRow, paired_row};
 
     // What row r holds inside the region where its words are its entries, both read once: so it is where the row rises and the topology is the
     // matrix's own. None says nothing, here and in all that follow rows: it sends the caller to the masks, which check and count any row, and so no
@@ -204,31 +231,6 @@ impl System<'_> {
         Ok(())
     }
 
-    // How many of row r's entries have their column inside the region.
-    fn count_inside(self, r: usize) -> usize
-        requires { r < self.local.region.len }
-        ensures { result ≡ row_inside self.entry r }
-    {
-        self.matrix
-            .row_columns(r)
-            .iter()
-            .filter(|column| self.local.region.holds(**column as usize))
-            .count()
-    }
-
-    // How many entries of the members' rows have their column inside the region. By `map` and `sum` it was tried: left were what the closure asks of
-    // each member and that the sum fits, since no law says which list the members' iterator yields.
-    #[tactic(auto, using(crate::proofs::Sources::rows))]
-    fn count_sources(self) -> usize
-        ensures { result ≡ sources_inside self.entry.local.region.len (nodes self.entry.local.region) self.entry.matrix.row_ptr.now self.entry.matrix.col_idx.now }
-    {
-        let mut sources: usize = 0;
-        for r in self.local.region.members() {
-            sources += self.count_inside(r);
-        }
-        sources
-    }
-
     // What the members' rows hold where nothing is left to check, given what the topology holds inside the region.
     pub fn counts(self, kept: RegionKept) -> Counts
         requires { kept ≡ region_kept self.local.region.len (nodes self.local.region) (pairs self.local.rows) }
@@ -238,7 +240,7 @@ impl System<'_> {
             members: kept.members,
             rows: RowCounts {
                 pairs: kept.rows.kept,
-                sources: self.count_sources(),
+                sources: count_sources(self.local.region, self.matrix),
             },
         }
     }
@@ -257,7 +259,7 @@ impl System<'_> {
         let row = self.local.count_row(r);
         Ok(RowCounts {
             pairs: row.kept,
-            sources: self.count_inside(r),
+            sources: count_inside(self.local.region, self.matrix, r),
         })
     }
 

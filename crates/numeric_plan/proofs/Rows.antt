@@ -4,12 +4,12 @@ use mathlib.Core.Bool.{Bool}
 use mathlib.Core.List.{List, map, ◌++◌}
 use Prim.Native.Nat.{ℕ, ◌+◌, ◌-◌, ◌≤◌, ◌<◌}
 use native.Mathlib.Omega.{arith}
-use lib.ListN.{length, set, length-append}
+use lib.ListN.{length, set, length-set, length-append, length-map}
 use Rattle.base.specs.Checks.{entry_limit}
 use Rattle.base.specs.Lists.{join_below, written, over, placed}
 use Rattle.base.specs.Sets.{count_below}
 use Rattle.base.proofs.Joins.{join-none, join-next, join-length, join_up}
-use Rattle.base.proofs.Lists.{put_next, put-put, put-end, placed-over}
+use Rattle.base.proofs.Lists.{put_next, put-put, put-end, placed-over, placed-length}
 use Rattle.base.proofs.Sets.{count-members}
 use Rattle.pattern.specs.Pattern.{member_at, number_of, inside, columns_of, local_row, pattern_ptr, pattern_columns, pairs_inside}
 use Rattle.pattern.proofs.Writing.{ptr-length, ptr-at, row-length}
@@ -65,9 +65,12 @@ module _ (n : ℕ) (p : ℕ → Bool) (s : ℕ → ℕ → Bool) (ptr cols : Lis
 
   -- the first k rows are written
   pub record Rows (lptr₀ lcols₀ sptr₀ src₀ lptr lcols sptr src : List ℕ) (pair source k : ℕ) : Type 0 where
+    pub within : k ≤ count_below n p
     pub pairs : pair ≡ start k
     pub lptr_done : lptr ≡ written (k + 1) (pattern_ptr n p s) lptr₀
     pub lcols_done : lcols ≡ over (join_below k (local_row n p s)) lcols₀
+    pub lptr_long : length lptr ≡ length lptr₀
+    pub lcols_long : length lcols ≡ length lcols₀
     pub sourced : Sourced (entry_list (pair_entries n p s ptr cols)) (length (pair_entries n p s ptr cols)) sptr₀ src₀ sptr src pair source
 
   module _ (lptr₀ lcols₀ sptr₀ src₀ : List ℕ) where
@@ -78,15 +81,18 @@ module _ (n : ℕ) (p : ℕ → Bool) (s : ℕ → ℕ → Bool) (ptr cols : Lis
         let none : start 0 ≡ 0 = ap length (join-none (local_row n p s)) in
         let put : set lptr₀ 0 0 ≡ written 1 X lptr₀ = put_next X lptr₀ lptr₀ 0 0 0 one l refl (sym (ptr-at n s p 0 (omega arith) ∙ none)) in
         record {
+          within = omega arith;
           pairs = sym none;
           lptr_done = put ∙ sym (put-put X lptr₀ 1 1 (omega arith) one l) ∙ ap (written 1 X) (sym put);
           lcols_done = sym (ap (λ (x : List ℕ). over x lcols₀) (join-none (local_row n p s)));
+          lptr_long = refl;
+          lcols_long = refl;
           sourced = sourced-none (entry_list lists) (length lists) sptr₀ src₀ h;
         }
 
     module _ (lptr lcols sptr src : List ℕ) (pair source k : ℕ) (w : Rows lptr₀ lcols₀ sptr₀ src₀ lptr lcols sptr src pair source k) where
       -- row r is member k's
-      module _ (l : k < count_below n p) (r : ℕ) (m : r ≡ member_at n p k) where
+      module _ (l : k < count_below n p) (r : ℕ) (m : r ≡ member_at n p k) (columns_room : pairs_inside n p s ≤ length lcols₀) (pointers_room : pairs_inside n p s < length sptr₀) (sources_room : length (plan_sources lists) ≤ length src₀) where
         abbrev C : List ℕ
         C = columns_of n p s r
 
@@ -109,8 +115,15 @@ module _ (n : ℕ) (p : ℕ → Bool) (s : ℕ → ℕ → Bool) (ptr cols : Lis
         end = omega (arith, sourced-end (entry_list lists) E pair (length C) here (length lists) sptr₀ src₀ sptr src source w.sourced, ap (λ (x : ℕ). length (join_below x (entry_list lists))) past, sources-up (k + 1) (omega arith))
 
         -- the lists have room for row k
-        pub rows_room : pairs_inside n p s ≤ length lcols → pairs_inside n p s < length sptr → length (plan_sources lists) ≤ length src → length (plan_sources lists) ≤ entry_limit → RowRoom (columns_of n p s r) (row_entries n p s ptr cols r) pair source (length (plan_sources lists)) lcols sptr src
-        rows_room columns_room pointers_room sources_room few = record { pairs = omega (arith, rows_pairs); pointers = omega (arith, rows_pairs); within = end; inside = sources_room; small = few }
+        pub rows_room : length (plan_sources lists) ≤ entry_limit → RowRoom (columns_of n p s r) (row_entries n p s ptr cols r) pair source (length (plan_sources lists)) lcols sptr src
+        rows_room few =
+            record {
+              pairs = omega (arith, rows_pairs, w.lcols_long);
+              pointers = omega (arith, rows_pairs, w.sourced.ptr_long);
+              within = end;
+              inside = omega (arith, w.sourced.src_long);
+              small = few;
+            }
 
         pub rows_next : count_below n p < length lptr₀ → (most : ℕ) → most ≡ length (plan_sources lists)
             → (lcols' sptr' src' : List ℕ) (pair' source' : ℕ) → pair' ≡ pair + length (columns_of n p s r) → source' ≡ source + length (join_below (length (columns_of n p s r)) (row_entries n p s ptr cols r))
@@ -118,26 +131,31 @@ module _ (n : ℕ) (p : ℕ → Bool) (s : ℕ → ℕ → Bool) (ptr cols : Lis
             → Rows lptr₀ lcols₀ sptr₀ src₀ (set lptr (k + 1) pair') lcols' sptr' src' pair' source' (k + 1)
         unfolding plan_sources
         rows_next room most em lcols' sptr' src' pair' source' ep es gc gp gs =
+            let long : length (map (number_of p) C) ≡ length C = length-map C (number_of p) in
             let grown : join_below (k + 1) (local_row n p s) ≡ join_below k (local_row n p s) ++ map (number_of p) C = join-next k (local_row n p s) ∙ ap (λ (x : List ℕ). join_below k (local_row n p s) ++ x) (columns k ∙ ap (λ (x : ℕ). map (number_of p) (columns_of n p s x)) (sym m)) in
             record {
+              within = omega arith;
               pairs = ep ∙ past;
               lptr_done = put_next (pattern_ptr n p s) lptr₀ lptr (k + 1) pair' 0 (omega (arith, ptr-length n s p)) (omega arith) w.lptr_done (ep ∙ past ∙ sym (ptr-at n s p (k + 1) (omega arith)));
               lcols_done =
                   gc ∙ ap₂ (λ (x : ℕ) (y : List ℕ). placed x (map (number_of p) C) y) w.pairs w.lcols_done
                   ∙ placed-over (join_below k (local_row n p s)) (map (number_of p) C) lcols₀
                   ∙ ap (λ (x : List ℕ). over x lcols₀) (sym grown);
+              lptr_long = length-set lptr (k + 1) pair' ∙ w.lptr_long;
+              lcols_long = ap length gc ∙ placed-length pair (map (number_of p) C) lcols (omega (arith, long, rows_pairs, w.lcols_long)) ∙ w.lcols_long;
               sourced =
                   subst (λ (x : ℕ). Sourced (entry_list lists) (length lists) sptr₀ src₀ sptr' src' x source') (sym ep)
-                  (sourced-next (entry_list lists) E pair (length C) here (length lists) sptr₀ src₀ sptr src source w.sourced (omega (arith, rows_pairs, lists_length n p s ptr cols)) sptr' src' source' es gp (subst (λ (x : ℕ). Put source x (join_below (length C) E) src src') em gs));
+                  (sourced-next (entry_list lists) E pair (length C) here (length lists) sptr₀ src₀ sptr src source w.sourced (omega (arith, rows_pairs, lists_length n p s ptr cols)) (omega (arith, rows_pairs)) sptr' src' source' es gp (subst (λ (x : ℕ). Put source x (join_below (length C) E) src src') em gs));
             }
 
-      pub rows_all : k ≡ count_below n p → length (plan_sources (pair_entries n p s ptr cols)) ≤ length src₀ → length src ≡ length src₀
+      pub rows_all : count_below n p ≤ k → length (plan_sources (pair_entries n p s ptr cols)) ≤ length src₀
           → (lptr ≡ over (pattern_ptr n p s) lptr₀) × (lcols ≡ over (pattern_columns n p s) lcols₀)
           × (sptr ≡ over (plan_ptr (pair_entries n p s ptr cols)) sptr₀) × (src ≡ over (plan_sources (pair_entries n p s ptr cols)) src₀)
       unfolding plan_sources plan_ptr
-      rows_all e room same_long =
+      rows_all h room =
+          let e : k ≡ count_below n p = omega (arith, w.within) in
           let all : pair ≡ length lists = w.pairs ∙ ap start e ∙ all-pairs ∙ sym (lists_length n p s ptr cols) in
-          let done = sourced-all (entry_list lists) (length lists) sptr₀ src₀ sptr src pair source w.sourced all room same_long in (
+          let done = sourced-all (entry_list lists) (length lists) sptr₀ src₀ sptr src pair source w.sourced all room in (
             put-end (pattern_ptr n p s) lptr₀ lptr (k + 1) (ap (λ (x : ℕ). x + 1) e ∙ sym (ptr-length n s p)) w.lptr_done,
             w.lcols_done ∙ ap (λ (x : ℕ). over (join_below x (local_row n p s)) lcols₀) e ∙ ap (λ (x : List ℕ). over x lcols₀) (sym all_columns),
             done.0,

@@ -10,8 +10,9 @@ use lib.Seq.{get_or-append-add, ext_get_or}
 use Rattle.base.specs.Lists.{list_from, join_below, over, placed}
 use Rattle.base.proofs.Bools.{lt-or-le}
 use Rattle.base.proofs.Joins.{join-none, join-append, join-cong, join-part}
-use Rattle.base.proofs.Lists.{length-list_from, list_from-append, list_from-shift, list_from-cong, over-beyond, placed-over}
+use Rattle.base.proofs.Lists.{length-list_from, list_from-append, list_from-shift, list_from-cong, over-beyond, placed-over, placed-length}
 use Rattle.sources.specs.Steps.{ends_from, Put}
+use Rattle.sources.proofs.Rows.{ends-length}
 
 -- where each list starts, and where the last ends
 abbrev pub starts_of : (ℕ → List ℕ) → ℕ → List ℕ
@@ -32,16 +33,20 @@ first-over (x ∷ l) h = refl
 pub record Sourced (f : ℕ → List ℕ) (all : ℕ) (ptr₀ src₀ ptr src : List ℕ) (pairs next : ℕ) : Type 0 where
   pub here : next ≡ length (join_below pairs f)
   pub ptr_done : ptr ≡ over (starts_of f pairs) ptr₀
+  pub ptr_long : length ptr ≡ length ptr₀
   pub src_done : (i : ℕ) → i < next → get_or src i 0 ≡ get_or (join_below all f) i 0
   pub src_past : (i : ℕ) → length (join_below all f) ≤ i → get_or src i 0 ≡ get_or src₀ i 0
+  pub src_long : length src ≡ length src₀
 
 pub sourced-none : (f : ℕ → List ℕ) (all : ℕ) (ptr₀ src₀ : List ℕ) → 0 < length ptr₀ → Sourced f all (set ptr₀ 0 0) src₀ (set ptr₀ 0 0) src₀ 0 0
 sourced-none f all ptr₀ src₀ h =
     record {
       here = sym (ap length (join-none f));
       ptr_done = first-over ptr₀ h ∙ ap (λ (x : List ℕ). over x (set ptr₀ 0 0)) (sym (starts_none f));
+      ptr_long = refl;
       src_done = λ i l. absurd (omega arith);
       src_past = λ i l. refl;
+      src_long = refl;
     }
 
 -- a row: m pairs more, whose lists are those of e
@@ -85,18 +90,20 @@ module _ (f e : ℕ → List ℕ) (pairs m : ℕ) (same : (j : ℕ) → j < m �
     pub sourced-end : next + length (join_below m e) ≡ length (join_below (pairs + m) f)
     sourced-end = ap (λ (x : ℕ). x + length (join_below m e)) w.here ∙ sym (ap length row-join ∙ length-append (join_below pairs f) (join_below m e))
 
-    pub sourced-next : pairs + m ≤ all
+    pub sourced-next : pairs + m ≤ all → pairs + m < length ptr₀
         → (ptr' src' : List ℕ) (next' : ℕ) → next' ≡ next + length (join_below m e) → ptr' ≡ placed (pairs + 1) (ends_from next m e) ptr → Put next (length (join_below all f)) (join_below m e) src src'
         → Sourced f all ptr₀ src₀ ptr' src' (pairs + m) next'
-    sourced-next few ptr' src' next' h p g =
+    sourced-next few pointers ptr' src' next' h p g =
         record {
           here = h ∙ sourced-end;
           ptr_done =
               p ∙ ap₂ (λ (i : ℕ) (x : List ℕ). placed i (ends_from next m e) x) (sym (starts-length f pairs)) w.ptr_done
               ∙ placed-over (starts_of f pairs) (ends_from next m e) ptr₀
               ∙ ap (λ (x : List ℕ). over x ptr₀) (sym (row_ends next w.here));
+          ptr_long = ap length p ∙ placed-length (pairs + 1) (ends_from next m e) ptr (omega (arith, ends-length e next m, w.ptr_long)) ∙ w.ptr_long;
           src_done = λ i l. done i l (lt-or-le i next);
           src_past = λ i l. g.past i l ∙ w.src_past i l;
+          src_long = g.long ∙ w.src_long;
         }
       where
         done : (i : ℕ) → i < next' → (i < next) ⊎ (next ≤ i) → get_or src' i 0 ≡ get_or (join_below all f) i 0
@@ -108,10 +115,10 @@ module _ (f e : ℕ → List ℕ) (pairs m : ℕ) (same : (j : ℕ) → j < m �
             ap (λ (x : ℕ). get_or src' x 0) (sym s) ∙ g.here (i - next) few-left ∙ sym (row_at all few (i - next) few-left)
             ∙ ap (λ (x : ℕ). get_or (join_below all f) (x + (i - next)) 0) (sym w.here) ∙ ap (λ (x : ℕ). get_or (join_below all f) x 0) s
 
-pub sourced-all : (f : ℕ → List ℕ) (all : ℕ) (ptr₀ src₀ ptr src : List ℕ) (pairs next : ℕ) → Sourced f all ptr₀ src₀ ptr src pairs next → pairs ≡ all → length (join_below all f) ≤ length src₀ → length src ≡ length src₀
+pub sourced-all : (f : ℕ → List ℕ) (all : ℕ) (ptr₀ src₀ ptr src : List ℕ) (pairs next : ℕ) → Sourced f all ptr₀ src₀ ptr src pairs next → pairs ≡ all → length (join_below all f) ≤ length src₀
     → (ptr ≡ over (starts_of f all) ptr₀) × (src ≡ over (join_below all f) src₀)
-sourced-all f all ptr₀ src₀ ptr src pairs next w e room same =
-    (w.ptr_done ∙ ap (λ (x : ℕ). over (starts_of f x) ptr₀) e, ext_get_or 0 src (over x src₀) (same ∙ sym long) (λ i l. each i (lt-or-le i (length x))))
+sourced-all f all ptr₀ src₀ ptr src pairs next w e room =
+    (w.ptr_done ∙ ap (λ (x : ℕ). over (starts_of f x) ptr₀) e, ext_get_or 0 src (over x src₀) (w.src_long ∙ sym long) (λ i l. each i (lt-or-le i (length x))))
   where
     x : List ℕ
     x = join_below all f

@@ -2,10 +2,10 @@
 use mathlib.Core.Path.{◌≡◌, refl, sym, ap, ap₂, ◌∙◌}
 use mathlib.Core.List.{List, [], ◌∷◌, ◌++◌}
 use Prim.Native.Nat.{ℕ, ◌+◌, ◌≤◌, ◌<◌}
-use native.Mathlib.Nat.{add-zero}
+use native.Mathlib.Nat.{add-zero, zero-add}
 use native.Mathlib.Omega.{arith}
-use lib.ListN.{length, set, length-append}
-use Rattle.base.specs.Lists.{placed}
+use lib.ListN.{length, set, drop, length-append}
+use Rattle.base.specs.Lists.{over, placed}
 use Rattle.base.proofs.Lists.{placed-none, placed-next, placed-more}
 
 -- X is still to come, in the places from k up to `end`
@@ -14,6 +14,11 @@ pub record Coming {A : Type 0} (end : ℕ) (answer : List A) (k : ℕ) (X out : 
   pub makes : placed k X out ≡ answer
 
 module _ {A : Type 0} where
+  -- at first it is the answer
+  pub coming_over : (X out : List A) (end : ℕ) → length X ≡ end → Coming end (over X out) 0 X out
+  unfolding placed
+  coming_over X out end e = record { ends = zero-add (length X) ∙ e; makes = ap (λ (k : ℕ). X ++ drop k out) (zero-add (length X)) }
+
   module _ {end : ℕ} {answer : List A} {k : ℕ} {R out : List A} (c : Coming end answer k R out) where
     -- and at last nothing
     pub coming_none : R ≡ [] → (k ≡ end) × (out ≡ answer)

@@ -5,12 +5,9 @@ use mathlib.Core.List.{List}
 use Prim.Native.Nat.{ℕ, ◌+◌, ◌≤◌, ◌<◌}
 use native.Mathlib.Omega.{arith}
 use lib.Dec.{T}
-use lib.ListN.{length, get_or, set}
-use Rattle.base.specs.Lists.{written, over}
-use Rattle.base.specs.Sets.{sum_below, sum_over, count_below, members_below, one_if}
+use Rattle.base.specs.Sets.{sum_below, sum_over, count_below, one_if}
 use Rattle.base.proofs.Bools.{T_true}
-use Rattle.base.proofs.Sets.{over-past, over-le, sum-zero, sum-suc, sum_mono, count_past, count-member, count-members, get_or-count}
-use Rattle.base.proofs.Lists.{put_next, put-end}
+use Rattle.base.proofs.Sets.{over-past, over-le, sum-zero, sum-suc, sum_mono, count_past}
 use Rattle.mask.specs.Mask.{in_mask}
 use Rattle.mask.proofs.Nexts.{Next}
 
@@ -41,38 +38,3 @@ module _ (n : ℕ) (region : List ℕ) where
   -- a sum and the next number stay below the whole
   pub sum_room : (i : ℕ) (f : ℕ → ℕ) → i < n → sum_over i (in_mask region) f + f i ≤ sum_below n f
   sum_room i f l = omega (arith, over-le i (in_mask region) f, sum-suc i f, sum_mono (i + 1) n f (omega arith))
-
--- ---- the members written one after the other
-
--- those below r are
-pub record Listed (n : ℕ) (region nodes₀ nodes : List ℕ) (k r : ℕ) : Type 0 where
-  pub within : r ≤ n
-  pub member : r < n → T (in_mask region r)
-  pub place : k ≡ count_below r (in_mask region)
-  pub done : nodes ≡ written k (members_below n (in_mask region)) nodes₀
-
-module _ (n : ℕ) (region nodes₀ : List ℕ) where
-  pub list-first : (r : ℕ) → Next n region 0 r → Listed n region nodes₀ nodes₀ 0 r
-  list-first r next = record { within = next.within; member = next.member; place = count-first n region r next; done = refl }
-
-  module _ (nodes : List ℕ) (k r : ℕ) (w : Listed n region nodes₀ nodes k r) where
-    module _ (l : r < n) (room : count_below n (in_mask region) ≤ length nodes₀) where
-      pub list_room : k < length nodes₀
-      list_room = omega (arith, w.place, count-member n (in_mask region) r l (w.member l), room)
-
-      pub list-turn : (r' : ℕ) → Next n region (r + 1) r' → Listed n region nodes₀ (set nodes k r) (k + 1) r'
-      list-turn r' next =
-          record {
-            within = next.within;
-            member = next.member;
-            place = ap (λ (x : ℕ). x + 1) w.place ∙ count_turn n region r r' (w.member l) next;
-            done =
-                put_next (members_below n (in_mask region)) nodes₀ nodes k r 0 (omega (arith, w.place, count-member n (in_mask region) r l (w.member l), count-members n (in_mask region))) list_room w.done
-                (sym (ap (λ (x : ℕ). get_or (members_below n (in_mask region)) x 0) w.place ∙ get_or-count n (in_mask region) r l (w.member l)));
-          }
-
-    pub list-last : n ≤ r → (k ≡ count_below n (in_mask region)) × (nodes ≡ over (members_below n (in_mask region)) nodes₀)
-    list-last l =
-        let e : r ≡ n = omega (arith, w.within) in
-        let all : k ≡ count_below n (in_mask region) = w.place ∙ ap (λ (x : ℕ). count_below x (in_mask region)) e in
-        (all, put-end (members_below n (in_mask region)) nodes₀ nodes k (all ∙ sym (count-members n (in_mask region))) w.done)

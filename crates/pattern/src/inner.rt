@@ -212,19 +212,21 @@ pub fn stats(n: usize, counts: RegionKept) -> AbtmLocalSubmatrixPatternStats
 }
 
 // The members in rising order. How many there are. No twin of `mask::inner::Mask::write_members`: over both widths each contract would speak of the
-// values of a list in the place of the list, and each caller would have to go from one to the other. `count` is what is answered: with `enumerate` it
-// would be set beside its number each time.
+// values of a list in the place of the list, and each caller would have to go from one to the other.
 pub fn write_nodes(region: Mask, nodes: &mut [u32]) -> usize
     requires { count_below region.len (in_mask region.words.now) ≤ length nodes.old }
     ensures value { result ≡ count_below region.entry.len (in_mask region.entry.words.now) }
     ensures nodes_after { nodes.new ≡ over (members_below region.entry.len (in_mask region.entry.words.now)) nodes.old }
 {
-    let mut count: usize = 0;
-    for r in region.members() {
-        nodes[count] = r as u32;
-        count += 1;
+    let mut k: usize = 0;
+    for (w, word) in region.words.iter().enumerate() {
+        let first = (w * AbtmTopologyWord::BITS) as u32;
+        for bit in Bits::of(*word) {
+            nodes[k] = first + bit;
+            k += 1;
+        }
     }
-    count
+    k
 }
 
 // How many members come before each word of the region. A word without one, as most are in a small region, is not counted. By number: what a `zip`

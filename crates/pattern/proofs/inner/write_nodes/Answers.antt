@@ -1,52 +1,73 @@
--- `pattern::inner::write_nodes` meets its contract. The invariant: the members before the one that comes next are written. Assumes nothing.
-use Rattle.std.proofs.Common.{◌≡◌, refl, ◌≤◌, arith}
-use Rattle.base.proofs.Sets.{count-le}
+-- `pattern::inner::write_nodes` meets its contract. The invariants: still to come are the members of the word's bits that are left, then those of later
+-- words. Assumes nothing.
+use mathlib.Core.Path.{◌≡◌, sym, ap, ◌∙◌, subst}
+use mathlib.Core.List.{List, ◌∷◌}
+use Prim.Native.Nat.{ℕ, ◌+◌, ◌-◌, ◌*◌, ◌<◌, ◌^◌}
+use native.Mathlib.Omega.{arith}
+use lib.ListN.{length}
+use Rattle.base.specs.Lists.{over}
+use Rattle.base.specs.Sets.{count_below, members_from}
+use Rattle.base.proofs.Sets.{members-zero, count-members}
+use Rattle.word.specs.Bits.{set_bits}
+use Rattle.word.proofs.Bits.{head_bit}
 use Rattle.mask.specs.Mask.{in_mask}
-use Rattle.mask.proofs.Nexts.{Given, walk-starts, walk-gives, walk-ends}
-use Rattle.pattern.proofs.Walks.{Listed, list-first, list_room, list-turn, list-last}
-use Rattle.pattern.proofs.inner.write_nodes.Goals.{In-Some}
+use Rattle.mask.proofs.Masks.{is-length}
+use Rattle.mask.proofs.Passes.{open-word, members-all}
+use Rattle.pattern.proofs.Coming.{Coming, coming_over, coming_none, coming_in, coming_next}
+use Rattle.pattern.proofs.inner.write_nodes.Invariants.{members, left}
+use Rattle.pattern.proofs.inner.write_nodes.Goals.{In-Some, In-loop-w, Start}
 use Rattle.pattern.proofs.inner.write_nodes.Goals as goal
 
--- member r came
-module _ (c : In-Some) where
-  came : Given c.args.region.len c.args.region.words.now c.loop-r.r-iterator c.in-Some.r c.next.new.self
-  came = walk-gives _ _ _ c.loop-r.invariant.0 _ _ c.in-Some.ensures.steps
+-- a word's nodes are numbers of 32 bits
+low : (c : In-loop-w) → 64 * c.loop-w.w + 64 < 2 ^ 32
+low c = omega (arith, is-length _ _ c.args.region.accepted, c.args.region.accepted.short)
 
-  before : Listed c.args.region.len c.args.region.words.now c.args.nodes.now c.loop-r.nodes c.loop-r.count c.in-Some.r
-  before = rw came.here c.loop-r.invariant.1
+-- the next of the bits that are left
+turn : (c : In-Some) → left c.args.region.words.now c.loop-w.w (set_bits c.loop-bit.bit-iterator.left)
+    ≡ (c.loop-w.w * 64 + c.in-Some.bit) ∷ left c.args.region.words.now c.loop-w.w (set_bits c.next.new.self.left)
+turn c =
+    let w = c.loop-w.w in
+    let e : 64 * w + c.in-Some.bit ≡ w * 64 + c.in-Some.bit = omega arith in
+    ap (left c.args.region.words.now w) c.in-Some.ensures.steps ∙ ap (λ (x : ℕ). x ∷ left c.args.region.words.now w (set_bits c.next.new.self.left)) e
 
-  few : c.loop-r.count ≤ c.args.region.len
-  few = omega (arith, before.place, count-le c.in-Some.r (in_mask c.args.region.words.now), came.inside)
+pub loop-w-init : goal.loop-w-init
+loop-w-init c =
+    let region = c.args.region.words.now in
+    let all : length region - 0 ≡ length region = omega arith in
+    subst (λ (X : List ℕ). Coming (count_below c.args.region.len (in_mask region)) (over (members c.args.region.len region) c.args.nodes.now) 0 X c.args.nodes.now)
+    (sym (members-all c.args.region.len region c.args.region.accepted) ∙ ap (λ (x : ℕ). members_from (in_mask region) 0 (64 * x)) (sym all))
+    (coming_over (members c.args.region.len region) c.args.nodes.now _ (count-members c.args.region.len (in_mask region)))
 
-pub loop-r-init : goal.loop-r-init
-loop-r-init c =
-    let from : c.into_iter-r-iterator.result ≡ c.members-r-items.result = c.into_iter-r-iterator.ensures.into_iter_gives in (
-      record { sized = rw from (rw c.members-r-items.ensures.mask refl); held = rw from (rw c.members-r-items.ensures.mask refl) },
-      list-first _ _ _ _ (walk-starts _ _ c.into_iter-r-iterator.result (rw from c.members-r-items.ensures.at)),
-    )
+pub overflow_mul-first : goal.overflow_mul-first
+overflow_mul-first c = omega (arith, low (goal.at.overflow_mul-first c).In-loop-w)
 
-pub offset_bounds-nodes-count : goal.offset_bounds-nodes-count
-offset_bounds-nodes-count c = omega (arith, few (goal.at.offset_bounds-nodes-count c).In-Some, c.args.region.accepted.short)
+pub overflow_cast-first : goal.overflow_cast-first
+overflow_cast-first c = omega (arith, low (goal.at.overflow_cast-first c).In-loop-w)
 
-pub overflow_add-count : goal.overflow_add-count
-overflow_add-count c = omega (arith, few (goal.at.overflow_add-count c).In-Some, c.args.region.accepted.short)
+pub loop-bit-init : goal.loop-bit-init
+loop-bit-init c = rw (c.into_iter-bit-iterator.ensures.into_iter_gives, c.of-bit-items.ensures, sym (open-word c.args.region.words.now c.loop-w.w (omega arith))) c.loop-w.invariant
 
-pub bounds-nodes-count : goal.bounds-nodes-count
-bounds-nodes-count c =
-    let s = (goal.at.bounds-nodes-count c).In-Some in
-    omega (arith, list_room _ _ _ _ _ _ (before s) (came s).inside c.requires)
+pub overflow_add-nodes : goal.overflow_add-nodes
+overflow_add-nodes c = omega (arith, head_bit _ _ _ c.in-Some.ensures.steps, low (goal.at.overflow_add-nodes c).In-loop-w)
 
-pub overflow_cast-nodes : goal.overflow_cast-nodes
-overflow_cast-nodes c = omega (arith, (came (goal.at.overflow_cast-nodes c).In-Some).inside, c.args.region.accepted.short)
+pub bounds-nodes-k : goal.bounds-nodes-k
+bounds-nodes-k c = coming_in c.loop-bit.invariant _ _ (turn (goal.at.bounds-nodes-k c).In-Some) (omega arith)
 
-pub loop-r-preserved : goal.loop-r-preserved
-loop-r-preserved c =
-    let s = (goal.at.loop-r-preserved c).In-Some in
-    ((came s).over, list-turn _ _ _ _ _ _ (before s) (came s).inside c.requires _ (came s).next)
+pub loop-bit-preserved : goal.loop-bit-preserved
+loop-bit-preserved c = coming_next c.loop-bit.invariant _ _ (turn (goal.at.loop-bit-preserved c).In-Some) (omega arith)
+
+pub loop-w-preserved : goal.loop-w-preserved
+loop-w-preserved c =
+    let region = c.args.region.words.now in
+    subst (λ (X : List ℕ). Coming (count_below c.args.region.len (in_mask region)) (over (members c.args.region.len region) c.args.nodes.now) c.loop-bit.k X c.loop-bit.nodes)
+    (ap (left region c.loop-w.w) c.in-None.ensures.steps.0)
+    c.loop-bit.invariant
 
 pub returns : goal.returns
 returns c =
-    let done = list-last _ _ _ _ _ _ c.loop-r.invariant.1 (walk-ends _ _ c.loop-r.r-iterator c.loop-r.invariant.0 c.next.new.self c.in-None.ensures.steps) in record {
+    let p = in_mask c.args.region.words.now in
+    let none : 64 * (length c.args.region.words.now - c.loop-w.w) ≡ 0 = omega arith in
+    let done = coming_none c.loop-w.invariant (ap (members_from p (64 * c.loop-w.w)) none ∙ members-zero p (64 * c.loop-w.w)) in record {
       value = done.0;
       nodes_after = done.1;
     }

@@ -66,7 +66,7 @@ overflow_cast-local_ptr c =
     omega (
       arith,
       c.write_row-end.ensures.pair_value.0,
-      rows_pairs a.self.bound.system.local.region.len p s a.self.bound.system.matrix.row_ptr.now a.self.bound.system.matrix.col_idx.now (set a.local_ptr.now 0 0) a.local_cols.now (set a.source_ptr.now 0 0) a.sources.now l.local_ptr l.local_cols l.source_ptr l.sources l.pair l.source l.k l.invariant (some (goal.at.overflow_cast-local_ptr c).In-loop-k) _ (node (goal.at.overflow_cast-local_ptr c).In-loop-k),
+      rows_pairs a.self.bound.system.local.region.len p s a.self.bound.system.matrix.row_ptr.now a.self.bound.system.matrix.col_idx.now (set a.local_ptr.now 0 0) a.local_cols.now (set a.source_ptr.now 0 0) a.sources.now l.local_ptr l.local_cols l.source_ptr l.sources l.pair l.source l.k l.invariant (some (goal.at.overflow_cast-local_ptr c).In-loop-k) _ (node (goal.at.overflow_cast-local_ptr c).In-loop-k) (omega (arith, q.fits.columns)) (omega (arith, q.fits.source_pointers, length-set a.source_ptr.now 0 0)) (omega (arith, c.args.self.bound.counted, q.fits.entry_sources)),
       (kept_small a.self.bound.system.local.region.len a.self.bound.system.local.rows.row_word_ptr.now a.self.bound.system.local.rows.word_indices.now a.self.bound.system.local.rows.masks.now c.args.self.bound.system.local.square p).rows.few_kept,
     )
 
@@ -78,7 +78,7 @@ loop-k-preserved c =
     let p = in_mask a.self.bound.system.local.region.words.now in
     let s = side_holds a.self.bound.system.local.rows.row_word_ptr.now a.self.bound.system.local.rows.word_indices.now a.self.bound.system.local.rows.masks.now in
     let g = c.write_row-end.ensures in
-    rows_next a.self.bound.system.local.region.len p s a.self.bound.system.matrix.row_ptr.now a.self.bound.system.matrix.col_idx.now (set a.local_ptr.now 0 0) a.local_cols.now (set a.source_ptr.now 0 0) a.sources.now l.local_ptr l.local_cols l.source_ptr l.sources l.pair l.source l.k l.invariant (some (goal.at.loop-k-preserved c).In-loop-k) _ (node (goal.at.loop-k-preserved c).In-loop-k) (omega (arith, q.all, q.fits.pointers, length-set a.local_ptr.now 0 0)) _ c.args.self.bound.counted _ _ _ _ _ g.pair_value.0 g.pair_value.1 g.columns g.starts g.entries
+    rows_next a.self.bound.system.local.region.len p s a.self.bound.system.matrix.row_ptr.now a.self.bound.system.matrix.col_idx.now (set a.local_ptr.now 0 0) a.local_cols.now (set a.source_ptr.now 0 0) a.sources.now l.local_ptr l.local_cols l.source_ptr l.sources l.pair l.source l.k l.invariant (some (goal.at.loop-k-preserved c).In-loop-k) _ (node (goal.at.loop-k-preserved c).In-loop-k) (omega (arith, q.fits.columns)) (omega (arith, q.fits.source_pointers, length-set a.source_ptr.now 0 0)) (omega (arith, c.args.self.bound.counted, q.fits.entry_sources)) (omega (arith, q.all, q.fits.pointers, length-set a.local_ptr.now 0 0)) _ c.args.self.bound.counted _ _ _ _ _ g.pair_value.0 g.pair_value.1 g.columns g.starts g.entries
 
 pub returns : goal.returns
 returns c =
@@ -87,7 +87,7 @@ returns c =
     let p = in_mask a.self.bound.system.local.region.words.now in
     let s = side_holds a.self.bound.system.local.rows.row_word_ptr.now a.self.bound.system.local.rows.word_indices.now a.self.bound.system.local.rows.masks.now in
     let x = pair_entries a.self.bound.system.local.region.len p s a.self.bound.system.matrix.row_ptr.now a.self.bound.system.matrix.col_idx.now in
-    let all = rows_all a.self.bound.system.local.region.len p s a.self.bound.system.matrix.row_ptr.now a.self.bound.system.matrix.col_idx.now (set a.local_ptr.now 0 0) a.local_cols.now (set a.source_ptr.now 0 0) a.sources.now l.local_ptr l.local_cols l.source_ptr l.sources l.pair l.source l.k l.invariant (omega (arith, c.requires.all, front (goal.at.returns c).Start)) (omega (arith, c.args.self.bound.counted, c.requires.fits.entry_sources)) l.auto.sources in record {
+    let all = rows_all a.self.bound.system.local.region.len p s a.self.bound.system.matrix.row_ptr.now a.self.bound.system.matrix.col_idx.now (set a.local_ptr.now 0 0) a.local_cols.now (set a.source_ptr.now 0 0) a.sources.now l.local_ptr l.local_cols l.source_ptr l.sources l.pair l.source l.k l.invariant (omega (arith, c.requires.all, front (goal.at.returns c).Start)) (omega (arith, c.args.self.bound.counted, c.requires.fits.entry_sources)) in record {
       pointers = all.0 ∙ over_first (pattern_ptr a.self.bound.system.local.region.len p s) a.local_ptr.now 0 (omega (arith, ptr-length a.self.bound.system.local.region.len s p));
       columns = all.1;
       starts = all.2 ∙ over_first (plan_ptr x) a.source_ptr.now 0 (omega (arith, pointers-length x));
