@@ -31,16 +31,16 @@ lower-is l from to x r w = go (lt-or-le r to)
     go (inr h) = let e : r ≡ to = omega (arith, w.high) in e ∙ none_from (λ k. leb x (get_or l k 0)) from to (omega (arith, w.low)) (λ k a b. under k a (omega arith))
 
 -- the place that a search answers: the word is there, or it is not
-module _ (idx : List ℕ) (n w r : ℕ) (e : r ≡ lower_in idx 0 n w) where
+module _ (idx : List ℕ) (from to w r : ℕ) (e : r ≡ lower_in idx from to w) where
   abbrev answer : ℕ → Result ℕ ℕ
-  answer x = cond (ltb x n && eqb (get_or idx x 0) w) (Ok x) (Err x)
+  answer x = cond (ltb x to && eqb (get_or idx x 0) w) (Ok x) (Err x)
 
-  pub search-found : r < n → get_or idx r 0 ≡ w → Ok r ≡ search_in idx n w
-  search-found h q = sym (ap₂ {C = Result ℕ ℕ} (λ (s t : Bool). cond (s && t) (Ok r) (Err r)) (lt-ltb r n h) (eq-eqb (get_or idx r 0) w q)) ∙ ap answer e
+  pub search-found : r < to → get_or idx r 0 ≡ w → Ok r ≡ search_in idx from to w
+  search-found h q = sym (ap₂ {C = Result ℕ ℕ} (λ (s t : Bool). cond (s && t) (Ok r) (Err r)) (lt-ltb r to h) (eq-eqb (get_or idx r 0) w q)) ∙ ap answer e
 
-  pub search-missing : (r < n → get_or idx r 0 ≢ w) → Err r ≡ search_in idx n w
+  pub search-missing : (r < to → get_or idx r 0 ≢ w) → Err r ≡ search_in idx from to w
   search-missing f =
-      sym (ap {B = Result ℕ ℕ} (λ (t : Bool). cond t (Ok r) (Err r)) (T_false (ltb r n && eqb (get_or idx r 0) w) (λ t. f (ltb→lt r n (and_l (ltb r n) (eqb (get_or idx r 0) w) t)) (eqb-true (get_or idx r 0) w (T_true (eqb (get_or idx r 0) w) (and_r (ltb r n) (eqb (get_or idx r 0) w) t))))))
+      sym (ap {B = Result ℕ ℕ} (λ (t : Bool). cond t (Ok r) (Err r)) (T_false (ltb r to && eqb (get_or idx r 0) w) (λ t. f (ltb→lt r to (and_l (ltb r to) (eqb (get_or idx r 0) w) t)) (eqb-true (get_or idx r 0) w (T_true (eqb (get_or idx r 0) w) (and_r (ltb r to) (eqb (get_or idx r 0) w) t))))))
       ∙ ap answer e
 
 -- a column whose word is not at the place is not held

@@ -4,9 +4,9 @@ ghost use Rattle.std.proofs.Math.Seq.{slice};
 ghost use Rattle.base.specs.Checks.{side_limit, entry_limit};
 ghost use Rattle.base.specs.Sets.{count_below, members_below};
 ghost use Rattle.word.specs.Answers.{entry};
-ghost use Rattle.side.specs.Side.{words_of_row, word_at};
+ghost use Rattle.side.specs.Side.{words_of_row, row_holds, word_at};
 ghost use Rattle.side.specs.Check.{side_room, bits_in, is_word_inside, bad_word, words_fault, side_fault, Rising, IsRows, IsSide};
-ghost use Rattle.side.specs.Row.{lower_in, search_in, Lower, IsWords};
+ghost use Rattle.side.specs.Row.{lower_in, search_in, Lower, IsRow, Inside, IsWords};
 
 use crate::{AbtmTopology, BadWord, Fault};
 use base::Refusal;
@@ -34,7 +34,7 @@ pub struct RowWords<'a> {
 }
 
 impl<'a> AbtmTopology<'a> {
-    ghost use Rattle.side.specs.Views.{check_side, check_limits, fault_in, IsLent, SoundSide, WithinLimits, AcceptedFrom};
+    ghost use Rattle.side.specs.Views.{check_side, check_limits, fault_in, IsLent, SoundSide, AcceptedFrom};
 
     pub fn accept(self) -> Result<Side<'a>, Refusal>
         ensures refused { IfErr result (λ e. check_side self.entry ≡ Err e) }
@@ -74,11 +74,11 @@ impl<'a> AbtmTopology<'a> {
         Ok(())
     }
 
-    // Its first fault, where it is within the limits.
+    // Its first fault, where it is within the limits; its pair count's limit only its soundness needs.
     pub fn fault(self) -> Result<(), Fault>
-        requires { WithinLimits self }
+        requires { (self.nrows ≤ side_limit) × (self.ncols ≤ side_limit) × (length self.masks.now ≤ entry_limit) }
         ensures value { result ≡ fault_in self.entry }
-        ensures sound { IfOk result (λ t. SoundSide self.entry) }
+        ensures sound { IfOk result (λ t. self.entry.structural_nnz ≤ entry_limit → SoundSide self.entry) }
     {
         first_fault(
             self.nrows,
@@ -91,18 +91,18 @@ impl<'a> AbtmTopology<'a> {
     }
 }
 
-// `ListTooShort` of a side that is written. It takes the lists for their lengths: as numbers of one type these would be mixed up sooner.
+// `ListTooShort` of a side that is written, by the lengths of its lists.
 #[tactic(auto, using(base::proofs::Checks::checks), unfolding(crate::specs::Check::side_room))]
 pub fn check_room(
     rows: usize,
     words: usize,
-    row_word_ptr: &[u32],
-    word_indices: &[u32],
-    masks: &[u64],
+    pointers: usize,
+    indices: usize,
+    masks: usize,
 ) -> Result<(), Refusal>
-    ensures { result ≡ side_room rows words (length row_word_ptr.now) (length word_indices.now) (length masks.now) }
+    ensures { result ≡ side_room rows words pointers indices masks }
 {
-    if rows >= row_word_ptr.len() || words > word_indices.len() || words > masks.len() {
+    if rows >= pointers || words > indices || words > masks {
         return Err(Refusal::ListTooShort);
     }
     Ok(())
@@ -120,7 +120,7 @@ pub fn count_bits(masks: &[u64], from: usize, to: usize) -> usize
 }
 
 // Whether no bit of the word, which is not 0, is at or past ncols.
-fn word_inside(ncols: usize, word: AbtmTopologyWord) -> bool
+pub fn word_inside(ncols: usize, word: AbtmTopologyWord) -> bool
     requires { (0 < word.mask) × (ncols ≤ side_limit) }
     ensures { result ≡ is_word_inside ncols word.word_index word.mask }
 {
@@ -135,8 +135,8 @@ fn word_inside(ncols: usize, word: AbtmTopologyWord) -> bool
     word.mask >> left == 0
 }
 
-// The place of the first bad word of a row, or none. The tests read both lists at k, one of them at k - 1 too: `find` would hold the same body.
-fn first_bad(ncols: usize, word_indices: &[u32], masks: &[u64]) -> Option<usize>
+// The place of the first bad word of a row, or none: of one at from..to the caller cuts the lists, and no list needs another length. The tests read both lists at k, one of them at k - 1 too: `find` would hold the same body.
+pub fn first_bad(ncols: usize, word_indices: &[u32], masks: &[u64]) -> Option<usize>
     requires { (ncols ≤ side_limit) × (length word_indices.now ≡ length masks.now) }
     ensures { result ≡ bad_word ncols word_indices.now masks.now }
 {
@@ -154,7 +154,7 @@ fn first_bad(ncols: usize, word_indices: &[u32], masks: &[u64]) -> Option<usize>
 }
 
 // The first bad word of a side whose lengths and pointers are right.
-fn check_words(
+pub fn check_words(
     nrows: usize,
     ncols: usize,
     row_word_ptr: &[u32],
@@ -187,9 +187,9 @@ fn first_fault(
     masks: &[u64],
     structural_nnz: usize,
 ) -> Result<(), Fault>
-    requires { (nrows ≤ side_limit) × (ncols ≤ side_limit) × (length masks.now ≤ entry_limit) × (structural_nnz ≤ entry_limit) }
+    requires { (nrows ≤ side_limit) × (ncols ≤ side_limit) × (length masks.now ≤ entry_limit) }
     ensures value { result ≡ side_fault nrows ncols row_word_ptr.now word_indices.now masks.now structural_nnz }
-    ensures sound { IfOk result (λ t. IsSide nrows ncols row_word_ptr.now word_indices.now masks.now × (structural_nnz ≡ bits_in masks.now 0 (length masks.now))) }
+    ensures sound { IfOk result (λ t. structural_nnz ≤ entry_limit → IsSide nrows ncols row_word_ptr.now word_indices.now masks.now × (structural_nnz ≡ bits_in masks.now 0 (length masks.now))) }
 {
     if row_word_ptr.len() != nrows + 1
         || word_indices.len() != masks.len()
@@ -223,6 +223,73 @@ pub fn lower(word_indices: &[u32], from: usize, to: usize, word: u32) -> usize
     lo
 }
 
+// Where a word stands at from..to, or else where it would stand.
+#[inline]
+fn search(word_indices: &[u32], from: usize, to: usize, word: u32) -> Result<usize, usize>
+    requires { (from ≤ to) × (to ≤ length word_indices.now) × Rising word_indices.now from to }
+    ensures value { result ≡ search_in word_indices.now from to word }
+    ensures found { IfOk result (λ k. (from ≤ k) × (k < to) × (get_or word_indices.now k 0 ≡ word)) }
+    ensures missing { IfErr result (λ k. Lower word_indices.now from to word k × (k < to → get_or word_indices.now k 0 ≢ word)) }
+{
+    let at = lower(word_indices, from, to, word);
+    if at < to && word_indices[at] == word {
+        return Ok(at);
+    }
+    Err(at)
+}
+
+// Whether the row whose words stand at from..to holds the column.
+#[inline]
+pub fn contains(word_indices: &[u32], masks: &[u64], from: usize, to: usize, col: usize) -> bool
+    requires { (from ≤ to) × (to ≤ length word_indices.now) × (to ≤ length masks.now) × Rising word_indices.now from to × (col < side_limit) }
+    ensures { result ≡ row_holds word_indices.now masks.now from to col }
+{
+    match search(word_indices, from, to, (col / AbtmTopologyWord::BITS) as u32) {
+        Ok(at) => word::inner::bit(masks[at], col % AbtmTopologyWord::BITS),
+        Err(_) => false,
+    }
+}
+
+// How many columns of the row whose words stand at from..to lie below `col`.
+pub fn rank(word_indices: &[u32], masks: &[u64], from: usize, to: usize, col: usize) -> usize
+    requires { (from ≤ to) × (to ≤ length word_indices.now) × (to ≤ length masks.now) × IsRow word_indices.now masks.now from to × (to - from ≤ entry_limit) × (col ≤ side_limit) }
+    ensures { result ≡ count_below col (row_holds word_indices.now masks.now from to) }
+{
+    match search(word_indices, from, to, (col / AbtmTopologyWord::BITS) as u32) {
+        Ok(at) => {
+            let below = word::inner::rank(masks[at], col % AbtmTopologyWord::BITS);
+            count_bits(masks, from, at) + below as usize
+        }
+        Err(at) => count_bits(masks, from, at),
+    }
+}
+
+// The column of the row whose words stand at from..to that has `ordinal` columns before it, or none. The words are read by their positions in two
+// lists, as `Side` says.
+pub fn select(
+    ncols: usize,
+    word_indices: &[u32],
+    masks: &[u64],
+    from: usize,
+    to: usize,
+    ordinal: u64,
+) -> Option<usize>
+    requires { (from ≤ to) × (to ≤ length word_indices.now) × (to ≤ length masks.now) × IsRow word_indices.now masks.now from to × Inside ncols word_indices.now masks.now from to }
+    ensures { result ≡ entry (members_below ncols (row_holds word_indices.now masks.now from to)) ordinal }
+{
+    let mut left = ordinal;
+    for k in from..to {
+        let word = AbtmTopologyWord::new(word_indices[k], masks[k]);
+        let count = word.popcount() as u64;
+        if left < count {
+            let offset = word.select(left as usize)?;
+            return Some(word.base_col() + offset);
+        }
+        left -= count;
+    }
+    None
+}
+
 impl<'a> Side<'a> {
     ghost use Rattle.side.specs.Views.{pairs, held};
 
@@ -248,20 +315,6 @@ impl<'a> Side<'a> {
 impl RowWords<'_> {
     ghost use Rattle.side.specs.Views.{held};
 
-    // Where a word stands, or else where it would stand.
-    fn search(self, word: u32) -> Result<usize, usize>
-        ensures value { result ≡ search_in self.entry.word_indices.now (length self.entry.masks.now) word }
-        ensures found { IfOk result (λ k. (k < length self.entry.masks.now) × (get_or self.entry.word_indices.now k 0 ≡ word)) }
-        ensures missing { IfErr result (λ k. Lower self.entry.word_indices.now 0 (length self.entry.masks.now) word k × (k < length self.entry.masks.now → get_or self.entry.word_indices.now k 0 ≢ word)) }
-    {
-        let to = self.masks.len();
-        let at = lower(self.word_indices, 0, to, word);
-        if at < to && self.word_indices[at] == word {
-            return Ok(at);
-        }
-        Err(at)
-    }
-
     pub fn count(self) -> u64
         ensures { result ≡ length (words_of_row self.entry.ncols (held self.entry)) }
     {
@@ -282,11 +335,7 @@ impl RowWords<'_> {
         if col >= self.ncols as u64 {
             return false;
         }
-        let col = col as usize;
-        match self.search((col / AbtmTopologyWord::BITS) as u32) {
-            Ok(at) => word::inner::bit(self.masks[at], col % AbtmTopologyWord::BITS),
-            Err(_) => false,
-        }
+        contains(self.word_indices, self.masks, 0, self.masks.len(), col as usize)
     }
 
     // How many of its columns lie below `col`.
@@ -294,30 +343,15 @@ impl RowWords<'_> {
         requires { col ≤ self.ncols }
         ensures { result ≡ count_below col (held self.entry) }
     {
-        match self.search((col / AbtmTopologyWord::BITS) as u32) {
-            Ok(at) => {
-                let below = word::inner::rank(self.masks[at], col % AbtmTopologyWord::BITS);
-                count_bits(self.masks, 0, at) as u64 + below as u64
-            }
-            Err(at) => count_bits(self.masks, 0, at) as u64,
-        }
+        rank(self.word_indices, self.masks, 0, self.masks.len(), col) as u64
     }
 
-    // The column that has `ordinal` columns before it, or none. The words are read by their positions in two lists, as `Side` says.
+    // The column that has `ordinal` columns before it, or none.
     pub fn select(self, ordinal: u64) -> Option<usize>
         ensures { result ≡ entry (members_below self.entry.ncols (held self.entry)) ordinal }
     {
-        let mut left = ordinal;
-        for k in 0..self.masks.len() {
-            let word = AbtmTopologyWord::new(self.word_indices[k], self.masks[k]);
-            let count = word.popcount() as u64;
-            if left < count {
-                let offset = word.select(left as usize)?;
-                return Some(word.base_col() + offset);
-            }
-            left -= count;
-        }
-        None
+        let to = self.masks.len();
+        select(self.ncols, self.word_indices, self.masks, 0, to, ordinal)
     }
 
     // Word k, from 0, or none.

@@ -6,7 +6,7 @@ use Rattle.side.proofs.Accepted.{limits_passed}
 use Rattle.side.proofs.AbtmTopology.validate.Goals as goal
 
 pub fault-requires : goal.fault-requires
-fault-requires c = let w = limits_passed _ _ _ _ _ (sym c.check_limits.ensures ∙ c.in_ok-check_limits.was) in (w.few_rows, w.few_cols, w.few_words, w.few_pairs)
+fault-requires c = let w = limits_passed _ _ _ _ _ (sym c.check_limits.ensures ∙ c.in_ok-check_limits.was) in (w.few_rows, w.few_cols, w.few_words)
 
 pub returns-in_err-check_limits-clause-value : goal.returns-in_err-check_limits-clause-value
 unfolding side_check
@@ -19,3 +19,6 @@ returns-in_err-fault-clause-value c = handed _ _ c.from_residual-in_err-fault.en
 pub returns-clause-value : goal.returns-clause-value
 unfolding side_check fault_check
 returns-clause-value c = group-pass _ _ _ (sym c.check_limits.ensures ∙ c.in_ok-check_limits.was) (ap fault_check (sym c.in_ok-fault.was ∙ c.fault.ensures.value))
+
+pub returns-clause-accepted : goal.returns-clause-accepted
+returns-clause-accepted c = c.in_ok-fault.ensures.sound (limits_passed _ _ _ _ _ (sym c.check_limits.ensures ∙ c.in_ok-check_limits.was)).few_pairs

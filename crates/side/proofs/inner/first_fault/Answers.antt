@@ -1,8 +1,9 @@
-use Rattle.std.proofs.Common.{◌≡◌, sym, ◌∙◌, rules, arith}
+use Rattle.std.proofs.Common.{◌≡◌, ◌≤◌, length, sym, ◌∙◌, rules, arith}
 use lib.Dec.{leb}
 use borrow.Author.Tests.{leb-true}
 use Rattle.base.proofs.Lists.{pairwise-at}
-use Rattle.side.specs.Check.{side_fault, lists_agree}
+use Rattle.base.specs.Checks.{entry_limit}
+use Rattle.side.specs.Check.{side_fault, lists_agree, bits_in, IsSide}
 use Rattle.side.proofs.Accepted.{if-sound, sound-side}
 use Rattle.side.proofs.inner.first_fault.Goals as goal
 
@@ -25,4 +26,5 @@ unfolding side_fault lists_agree
 returns-clause-sound c =
     let a = c.args in
     let value : c.check_words.result ≡ side_fault a.nrows a.ncols a.row_word_ptr.now a.word_indices.now a.masks.now a.structural_nnz = search rules in
-    if-sound _ (λ e. sound-side _ _ _ _ _ _ c.requires.0 c.requires.1 c.requires.2 c.requires.3 (λ k. (c.type_inv.masks k).fits) (sym value ∙ e))
+    if-sound {P = a.structural_nnz ≤ entry_limit → IsSide a.nrows a.ncols a.row_word_ptr.now a.word_indices.now a.masks.now × (a.structural_nnz ≡ bits_in a.masks.now 0 (length a.masks.now))} _
+    (λ e few. sound-side _ _ _ _ _ _ c.requires.0 c.requires.1 c.requires.2 few (λ k. (c.type_inv.masks k).fits) (sym value ∙ e))
