@@ -63,7 +63,7 @@ impl<'a> AbtmDualTopology<'a> {
     }
 
     // The first fault of two sides within the limits: rows, columns, agreement.
-    pub(crate) fn fault(self) -> Result<(), Fault>
+    pub fn fault(self) -> Result<(), Fault>
         requires { WithinLimits self.rows × WithinLimits self.columns }
         ensures value { result ≡ fault_of self.entry }
         ensures sound { IfOk result (λ t. SoundTopology self.entry) }
@@ -74,33 +74,26 @@ impl<'a> AbtmDualTopology<'a> {
     }
 }
 
-// Whether the eight lists that a building takes are long enough. It takes them for their lengths: as numbers of one type these would be mixed up
-// sooner.
+// Whether the eight lists that a building takes are long enough, by their lengths.
 #[tactic(auto, using(base::proofs::Checks::checks))]
 pub fn check_room(
     nrows: usize,
     ncols: usize,
     entries: usize,
-    row_word_ptr: &[u32],
-    row_word_indices: &[u32],
-    row_masks: &[u64],
-    column_word_ptr: &[u32],
-    column_word_indices: &[u32],
-    column_masks: &[u64],
-    starts: &[u32],
-    order: &[u32],
+    row_pointers: usize,
+    row_words: usize,
+    row_masks: usize,
+    column_pointers: usize,
+    column_words: usize,
+    column_masks: usize,
+    starts: usize,
+    order: usize,
 ) -> Result<(), Refusal>
-    ensures { result ≡ build_room nrows ncols entries (length row_word_ptr.now) (length row_word_indices.now) (length row_masks.now) (length column_word_ptr.now) (length column_word_indices.now) (length column_masks.now) (length starts.now) (length order.now) }
+    ensures { result ≡ build_room nrows ncols entries row_pointers row_words row_masks column_pointers column_words column_masks starts order }
 {
-    side::inner::check_room(nrows, entries, row_word_ptr, row_word_indices, row_masks)?;
-    side::inner::check_room(
-        ncols,
-        entries,
-        column_word_ptr,
-        column_word_indices,
-        column_masks,
-    )?;
-    if ncols >= starts.len() || entries > order.len() {
+    side::inner::check_room(nrows, entries, row_pointers, row_words, row_masks)?;
+    side::inner::check_room(ncols, entries, column_pointers, column_words, column_masks)?;
+    if ncols >= starts || entries > order {
         return Err(Refusal::ListTooShort);
     }
     Ok(())

@@ -58,7 +58,7 @@ fn check_regions(node_count: usize, region_count: usize, words: &[u64]) -> Resul
 }
 
 // Whether no region has a bit at or past the nodes: its last word alone can.
-fn all_clean(node_count: usize, region_count: usize, words: &[u64]) -> bool
+pub fn all_clean(node_count: usize, region_count: usize, words: &[u64]) -> bool
     requires { (node_count ≤ side_limit) × (region_count ≤ region_limit) × (length words.now ≡ region_count * words_needed node_count) }
     ensures { result ≡ every_below region_count (λ q. clean node_count (region_at node_count words.now q)) }
 {

@@ -80,9 +80,9 @@ pub fn from_csr32(
     side::inner::check_room(
         matrix.nrows,
         matrix.col_idx.len(),
-        row_word_ptr,
-        word_indices,
-        masks,
+        row_word_ptr.len(),
+        word_indices.len(),
+        masks.len(),
     )?;
     Ok(side_build::inner::build_side(accepted, row_word_ptr, word_indices, masks))
 }
@@ -110,9 +110,9 @@ pub fn combine(
     side::inner::check_room(
         a.nrows,
         a.masks.len() + b.masks.len(),
-        row_word_ptr,
-        word_indices,
-        masks,
+        row_word_ptr.len(),
+        word_indices.len(),
+        masks.len(),
     )?;
     Ok(side_sets::inner::combine(left, right, op, row_word_ptr, word_indices, masks))
 }

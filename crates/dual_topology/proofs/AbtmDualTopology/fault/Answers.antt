@@ -24,7 +24,7 @@ pub returns-clause-sound : goal.returns-clause-sound
 returns-clause-sound c =
     if-sound _
     (λ e.
-    let r = c.in_ok-fault.ensures.sound in
-    let d = c.in_ok-fault-2.ensures.sound in
+    let r = c.in_ok-fault.ensures.sound c.requires.0.3 in
+    let d = c.in_ok-fault-2.ensures.sound c.requires.1.3 in
     let a = agreed-topology _ _ _ _ _ _ _ _ _ _ _ _ r.0 r.1 d.0 (sym c.agreement.ensures ∙ e) in
     record { topology = a.topology; as_rows = a.as_rows; as_columns = a.as_columns; as_pairs = a.as_pairs; counted = a.counted })
