@@ -191,37 +191,36 @@ impl<'a> Inputs<'a> {
     }
 }
 
-// The lengths of all lists: one call, so that `prepare_region` hands on one refusal with its seventeen equations, and not three. Each part takes
-// what its crate's `check_room` asks for: lists or lengths.
+// The lengths of all lists: one call, so that `prepare_region` hands on one refusal with its seventeen equations, and not three.
 pub fn check_room(
     nrows: usize,
     ncols: usize,
     entries: usize,
-    row_word_ptr: &[u32],
-    row_word_indices: &[u32],
-    row_masks: &[u64],
-    column_word_ptr: &[u32],
-    column_word_indices: &[u32],
-    column_masks: &[u64],
-    starts: &[u32],
-    order: &[u32],
+    row_pointers: usize,
+    row_words: usize,
+    row_masks: usize,
+    column_pointers: usize,
+    column_words: usize,
+    column_masks: usize,
+    starts: usize,
+    order: usize,
     region: usize,
     frontier: usize,
     scratch: usize,
     room: PlanRoom,
 ) -> Result<(), Refusal>
     requires { nrows ≤ side_limit }
-    ensures { result ≡ prepare_room nrows ncols entries (length row_word_ptr.now) (length row_word_indices.now) (length row_masks.now) (length column_word_ptr.now) (length column_word_indices.now) (length column_masks.now) (length starts.now) (length order.now) region frontier scratch room.pattern.nodes room.pattern.pointers room.pattern.columns room.source_pointers room.sources }
+    ensures { result ≡ prepare_room nrows ncols entries row_pointers row_words row_masks column_pointers column_words column_masks starts order region frontier scratch room.pattern.nodes room.pattern.pointers room.pattern.columns room.source_pointers room.sources }
 {
     dual_topology::inner::check_room(
         nrows,
         ncols,
         entries,
-        row_word_ptr,
-        row_word_indices,
+        row_pointers,
+        row_words,
         row_masks,
-        column_word_ptr,
-        column_word_indices,
+        column_pointers,
+        column_words,
         column_masks,
         starts,
         order,
