@@ -244,7 +244,8 @@ pub fn contains(word_indices: &[u32], masks: &[u64], from: usize, to: usize, col
     requires { (from ≤ to) × (to ≤ length word_indices.now) × (to ≤ length masks.now) × Rising word_indices.now from to × (col < side_limit) }
     ensures { result ≡ row_holds word_indices.now masks.now from to col }
 {
-    match search(word_indices, from, to, (col / AbtmTopologyWord::BITS) as u32) {
+    let word = (col / AbtmTopologyWord::BITS) as u32;
+    match search(word_indices, from, to, word) {
         Ok(at) => word::inner::bit(masks[at], col % AbtmTopologyWord::BITS),
         Err(_) => false,
     }
@@ -255,7 +256,8 @@ pub fn rank(word_indices: &[u32], masks: &[u64], from: usize, to: usize, col: us
     requires { (from ≤ to) × (to ≤ length word_indices.now) × (to ≤ length masks.now) × IsRow word_indices.now masks.now from to × (to - from ≤ entry_limit) × (col ≤ side_limit) }
     ensures { result ≡ count_below col (row_holds word_indices.now masks.now from to) }
 {
-    match search(word_indices, from, to, (col / AbtmTopologyWord::BITS) as u32) {
+    let word = (col / AbtmTopologyWord::BITS) as u32;
+    match search(word_indices, from, to, word) {
         Ok(at) => {
             let below = word::inner::rank(masks[at], col % AbtmTopologyWord::BITS);
             count_bits(masks, from, at) + below as usize
@@ -335,7 +337,8 @@ impl RowWords<'_> {
         if col >= self.ncols as u64 {
             return false;
         }
-        contains(self.word_indices, self.masks, 0, self.masks.len(), col as usize)
+        let to = self.masks.len();
+        contains(self.word_indices, self.masks, 0, to, col as usize)
     }
 
     // How many of its columns lie below `col`.
