@@ -58,6 +58,23 @@ pub fn are_offsets(components: &[u32], offsets: &[u64]) -> bool
     offsets[components.len()] == total
 }
 
+// The block of node `dof`, which lies between the offsets at `low` and at `high`: the half of them that brackets it, by a call of its own: one of
+// the forms that are asked for (docs/DECISIONS.md, at its end).
+pub fn locate(components: &[u32], offsets: &[u64], low: usize, high: usize, dof: u64) -> usize
+    requires { (offsets.now ≡ offsets_of components.now) × (low < high) × (high ≤ length components.now) × (start_of components.now low ≤ dof) × (dof < start_of components.now high) }
+    ensures { result ≡ block_of components.now dof }
+{
+    if high - low == 1 {
+        return low;
+    }
+    let middle = low + (high - low) / 2;
+    if offsets[middle] <= dof {
+        locate(components, offsets, middle, high, dof)
+    } else {
+        locate(components, offsets, low, middle, dof)
+    }
+}
+
 // The first block from a on that does not have the field, or the number of blocks, where the last run ends: `position` would count from a, and answer
 // none there. `Run` says it by what stands before and at the end, which is what its caller uses.
 fn run_end(fields: &[u32], field: u32, a: usize) -> usize
@@ -70,6 +87,31 @@ fn run_end(fields: &[u32], field: u32, a: usize) -> usize
         }
     }
     fields.len()
+}
+
+// The mask of the nodes whose block has the field, on a list of exactly its words. Neighbouring blocks of the field are one range, so that whole
+// words are written, as the project's rule for inner loops has it: block by block, a word would be written for each block in it. The loop jumps
+// past each range.
+pub fn fill_field(
+    fields: &[u32],
+    components: &[u32],
+    offsets: &[u64],
+    field: u32,
+    words: &mut [u64],
+)
+    requires { (offsets.now ≡ offsets_of components.now) × (length fields.now ≡ length components.now) × (total_of components.now ≤ side_limit) × (length words.old ≡ words_needed (total_of components.now)) }
+    ensures { words.new ≡ mask_words (total_of components.now) (has_field fields.now components.now field) }
+{
+    let total = offsets[components.len()] as usize;
+    mask::inner::clear(total, words);
+    let mut a: usize = 0;
+    while a < fields.len() {
+        let b = run_end(fields, field, a);
+        let start = offsets[a] as usize;
+        let end = offsets[b] as usize;
+        mask::inner::add_range(total, words, start, end);
+        a = b + 1;
+    }
 }
 
 impl<'a> FieldAwareDofLayout<'a> {
@@ -119,39 +161,19 @@ impl Layout<'_> {
         self.start(self.components.len())
     }
 
-    // The block of node `dof`, which lies between the offsets at `low` and at `high`: the half of them that brackets it, by a call of its own: one of
-    // the forms that are asked for (docs/DECISIONS.md, at its end).
+    // The block of node `dof`, which lies between the offsets at `low` and at `high`.
     pub fn locate(self, low: usize, high: usize, dof: u64) -> usize
         requires { (low < high) × (high ≤ length self.components.now) × (start_of self.components.now low ≤ dof) × (dof < start_of self.components.now high) }
         ensures { result ≡ block_of self.entry.components.now dof }
     {
-        if high - low == 1 {
-            return low;
-        }
-        let middle = low + (high - low) / 2;
-        if self.start(middle) as u64 <= dof {
-            self.locate(middle, high, dof)
-        } else {
-            self.locate(low, middle, dof)
-        }
+        locate(self.components, self.offsets, low, high, dof)
     }
 
-    // The mask of the nodes whose block has the field, on a list of exactly its words. Neighbouring blocks of the field are one range, so that whole
-    // words are written, as the project's rule for inner loops has it: block by block, a word would be written for each block in it. The loop jumps
-    // past each range.
+    // The mask of the nodes whose block has the field, on a list of exactly its words.
     pub fn fill_field(self, fields: &[u32], field: u32, words: &mut [u64])
         requires { (length fields.now ≡ length self.components.now) × (length words.old ≡ words_needed (total_of self.components.now)) }
         ensures { words.new ≡ mask_words (total_of self.entry.components.now) (has_field fields.now self.entry.components.now field) }
     {
-        let total = self.total();
-        mask::inner::clear(total, words);
-        let mut a: usize = 0;
-        while a < fields.len() {
-            let b = run_end(fields, field, a);
-            let start = self.start(a);
-            let end = self.start(b);
-            mask::inner::add_range(total, words, start, end);
-            a = b + 1;
-        }
+        fill_field(fields, self.components, self.offsets, field, words);
     }
 }
