@@ -1,4 +1,4 @@
--- Layouts, topologies and masks as they are lent, and a graph under a layout as it was accepted.
+-- Layouts, topologies and masks as they are lent, and a graph under a layout as it was accepted, or under its two lists.
 use Rattle.std.specs.Prelude.{List, ℕ}
 use Rattle.base.specs.Checks.{Check}
 use Rattle.mask.specs.declared.DofMask.{DofMask}
@@ -9,6 +9,7 @@ use Rattle.dual_topology.specs.declared.AbtmDualTopology.{AbtmDualTopology}
 use Rattle.dual_topology.specs.Views.{check_topology}
 use Rattle.graph.specs.Network.{Network, field_network}
 use Rattle.field_region.specs.declared.inner.FieldGraph.{FieldGraph}
+use Rattle.field_region.specs.declared.inner.BlockGraph.{BlockGraph}
 use Rattle.field_region.specs.Closure.{close_check}
 use Rattle.field_region.specs.Owners.{owners_check}
 use Rattle.field_region.specs.Growth.{field_grow_check}
@@ -31,3 +32,6 @@ blocked t l = field_network l.blocks.components.now (holds t.rows)
 
 abbrev pub fields : FieldGraph → Network
 fields g = field_network g.layout.components.now (pairs g.graph.topology.rows)
+
+abbrev pub block_network : BlockGraph → Network
+block_network g = field_network g.components.now (pairs g.graph.topology.rows)

@@ -27,6 +27,16 @@ pub struct FieldGraph<'a> {
     ghost sized: { graph.n ≡ total_of layout.components.now },
 }
 
+// A graph under the blocks of its nodes, of which any may have no component: closing and growth need no more of a layout than its two lists.
+#[derive(Clone, Copy)]
+pub struct BlockGraph<'a> {
+    pub graph: Graph<'a>,
+    pub components: &'a [u32],
+    pub offsets: &'a [u64],
+    ghost totals: { offsets.now ≡ offsets_of components.now },
+    ghost sized: { graph.n ≡ total_of components.now },
+}
+
 // The blocks of the mask's nodes are taken whole, in place. The scan of a block stops at its first selected bit; after one that finds none, the
 // blocks that end at or before the next selected node are passed. It takes the layout's two lists: closing took three times its time while it was
 // handed the layout as a struct. Nested loops left by a label are one of the forms that are asked for (docs/DECISIONS.md, at its end), and so each
@@ -34,7 +44,7 @@ pub struct FieldGraph<'a> {
 // is taken by its bits, which are at hand, and without a call: the speed rule of the project speaks of such inner loops. It is no part of its
 // callers: among what they need, the block's number would be kept in memory, and each block that is passed would wait for it.
 #[inline(never)]
-fn close_in_place(components: &[u32], offsets: &[u64], words: &mut [u64])
+pub fn close_in_place(components: &[u32], offsets: &[u64], words: &mut [u64])
     requires { (offsets.now ≡ offsets_of components.now) × (total_of components.now ≤ side_limit) × IsMask (total_of components.now) words.old }
     ensures { words.new ≡ closed_words components.now words.old }
 {
@@ -64,12 +74,12 @@ fn close_in_place(components: &[u32], offsets: &[u64], words: &mut [u64])
 }
 
 // The mask's blocks taken whole, on another list.
-pub fn close(layout: Layout, mask: Mask, out: &mut [u64])
-    requires { (mask.len ≡ total_of layout.components.now) × (length out.old ≡ words_needed mask.len) }
-    ensures { out.new ≡ closed_words layout.entry.components.now mask.entry.words.now }
+pub fn close(components: &[u32], offsets: &[u64], mask: Mask, out: &mut [u64])
+    requires { (offsets.now ≡ offsets_of components.now) × (mask.len ≡ total_of components.now) × (length out.old ≡ words_needed mask.len) }
+    ensures { out.new ≡ closed_words components.now mask.entry.words.now }
 {
     mask.copy(out);
-    close_in_place(layout.components, layout.offsets, out);
+    close_in_place(components, offsets, out);
 }
 
 // Whether all nodes from `start` up to `end` have the owner, as the first does.
@@ -136,7 +146,7 @@ pub fn write_owners(layout: Layout, dof_owners: &[u32], out: &mut [u32])
 }
 
 // How many blocks the region holds, which holds only whole blocks: those whose first node it holds.
-fn count_blocks(layout: Layout, region: Mask) -> u64
+pub fn count_blocks(layout: Layout, region: Mask) -> u64
     requires { region.len ≡ total_of layout.components.now }
     ensures { result ≡ count_below (length layout.entry.components.now) (λ b. in_mask region.entry.words.now (start_of layout.entry.components.now b)) }
 {
@@ -145,22 +155,76 @@ fn count_blocks(layout: Layout, region: Mask) -> u64
         .count() as u64
 }
 
+impl<'a> Hop for BlockGraph<'a> {
+    ghost use Rattle.field_region.specs.Views.{block_network};
+
+    ghost network = { block_network };
+
+    fn reach(&self, frontier: Mask, reached: &mut [u64]) -> Visited {
+        let found = self.graph.expand(frontier, reached);
+        close_in_place(self.components, self.offsets, reached);
+        found
+    }
+}
+
+impl BlockGraph<'_> {
+    ghost use Rattle.field_region.specs.Views.{block_network};
+
+    // The masks after `hops` hops from the seeds' blocks: closed to blocks before the first hop and after every hop.
+    pub fn grow_blocks(
+        self,
+        seeds: Mask,
+        hops: u64,
+        region: &mut [u64],
+        frontier: &mut [u64],
+        scratch: &mut [u64],
+    ) -> BlocksGrown
+        requires { (seeds.len ≡ self.graph.n) × (length region.old ≡ words_needed self.graph.n) × (length frontier.old ≡ words_needed self.graph.n) × (length scratch.old ≡ words_needed self.graph.n) }
+        ensures value { result ≡ blocks_grown_by (block_network self.entry) seeds.entry.words.now hops }
+        ensures region_after { region.new ≡ region_words (block_network self.entry) seeds.entry.words.now hops }
+        ensures frontier_after { frontier.new ≡ frontier_words (block_network self.entry) seeds.entry.words.now hops }
+        ensures scratch_after { scratch.new ≡ mask_words (total_of self.entry.components.now) (λ i. false) }
+    {
+        close(self.components, self.offsets, seeds, region);
+        let start = Mask {
+            len: self.graph.n,
+            words: region,
+        };
+        let closed_seeds = start.count();
+        BlocksGrown {
+            closed_seeds,
+            grown: growth::inner::grow_by_hops(&self, seeds, hops, region, frontier, scratch),
+        }
+    }
+}
+
 impl<'a> Hop for FieldGraph<'a> {
     ghost use Rattle.field_region.specs.Views.{fields};
 
     ghost network = { fields };
 
     fn reach(&self, frontier: Mask, reached: &mut [u64]) -> Visited {
-        let found = self.graph.expand(frontier, reached);
-        close_in_place(self.layout.components, self.layout.offsets, reached);
-        found
+        self.blocks().reach(frontier, reached)
+    }
+}
+
+impl<'a> FieldGraph<'a> {
+    // Its graph under its layout's two lists.
+    fn blocks(self) -> BlockGraph<'a>
+        ensures { (result.graph ≡ self.entry.graph) × (result.components ≡ self.entry.layout.components) }
+    {
+        BlockGraph {
+            graph: self.graph,
+            components: self.layout.components,
+            offsets: self.layout.offsets,
+        }
     }
 }
 
 impl FieldGraph<'_> {
     ghost use Rattle.field_region.specs.Views.{fields};
 
-    // The masks after `hops` hops from the seeds' blocks: closed to blocks before the first hop and after every hop.
+    // The same under a layout.
     pub fn grow_blocks(
         self,
         seeds: Mask,
@@ -175,16 +239,8 @@ impl FieldGraph<'_> {
         ensures frontier_after { frontier.new ≡ frontier_words (fields self.entry) seeds.entry.words.now hops }
         ensures scratch_after { scratch.new ≡ mask_words (total_of self.entry.layout.components.now) (λ i. false) }
     {
-        close(self.layout, seeds, region);
-        let start = Mask {
-            len: self.graph.n,
-            words: region,
-        };
-        let closed_seeds = start.count();
-        BlocksGrown {
-            closed_seeds,
-            grown: growth::inner::grow_by_hops(&self, seeds, hops, region, frontier, scratch),
-        }
+        self.blocks()
+            .grow_blocks(seeds, hops, region, frontier, scratch)
     }
 
     // A growth and its statistics, on lists that reach their needed lengths; `scratch` is left zero.

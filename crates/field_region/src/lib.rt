@@ -60,7 +60,7 @@ pub fn close_to_field_blocks(
     if need > out.len() {
         return Err(Refusal::ListTooShort);
     }
-    inner::close(layout, mask, &mut out[..need]);
+    inner::close(layout.components, layout.offsets, mask, &mut out[..need]);
     Ok(mask.len as u64)
 }
 

@@ -377,7 +377,7 @@ fn repeat_closing(layout: Layout, mask: Mask, times: u64, out: &mut [u64])
     ensures { out.new ≡ out.old }
 {
     for _ in 0..times {
-        field_region::inner::close(layout, mask, out);
+        field_region::inner::close(layout.components, layout.offsets, mask, out);
     }
 }
 

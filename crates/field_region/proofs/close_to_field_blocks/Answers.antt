@@ -58,7 +58,7 @@ returns-then-need-out c =
     }
 
 pub close-requires : goal.close-requires
-close-requires c = (sized (goal.at.close-requires c).In_ok-mask, length-take-le _ _ c.if-need-out.false ∙ c.words_for-need.ensures)
+close-requires c = (c.in_ok-layout.layout.totals, sized (goal.at.close-requires c).In_ok-mask, length-take-le _ _ c.if-need-out.false ∙ c.words_for-need.ensures)
 
 pub returns : goal.returns
 unfolding close_check

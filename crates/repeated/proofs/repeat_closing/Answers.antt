@@ -10,4 +10,4 @@ use Rattle.repeated.proofs.repeat_closing.Goals as goal
 pub close-requires : goal.close-requires
 close-requires c =
     let T = total_of c.args.layout.components.now in
-    (c.requires.0, ap length (c.loop.invariant ∙ c.requires.1) ∙ mask-length T (closed T (block_of c.args.layout.components.now) (in_mask c.args.mask.words.now)) ∙ ap words_needed (sym c.requires.0))
+    (c.args.layout.totals, c.requires.0, ap length (c.loop.invariant ∙ c.requires.1) ∙ mask-length T (closed T (block_of c.args.layout.components.now) (in_mask c.args.mask.words.now)) ∙ ap words_needed (sym c.requires.0))
