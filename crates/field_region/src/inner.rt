@@ -224,7 +224,7 @@ impl<'a> FieldGraph<'a> {
 impl FieldGraph<'_> {
     ghost use Rattle.field_region.specs.Views.{fields};
 
-    // The same under a layout.
+    // The growth by blocks, as that of the two lists.
     pub fn grow_blocks(
         self,
         seeds: Mask,
