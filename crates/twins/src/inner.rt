@@ -1,11 +1,11 @@
 // The first block that repeats the key of an earlier one, for a caller that has checked the lengths: no part of the API.
 ghost use Rattle.std.specs.Prelude.{◌≡◌, ◌+◌, ◌≤◌, length};
 ghost use Rattle.base.specs.Checks.{side_limit};
-ghost use Rattle.twins.specs.Keys.{lowest_twin, Twin};
+ghost use Rattle.twins.specs.Views.{lowest_repeat, TwinOf};
 
+use crate::keys::Front;
 pub use crate::keys::Keys;
-use crate::keys::{Front, Key};
-use crate::orders::{self, ByField};
+use crate::orders::{self, ByField, ByKind};
 use crate::table::{self, Class};
 
 // The last of 1, 2, 4, .. classes, so many that the large table is two thirds full at most.
@@ -21,7 +21,7 @@ fn last_class(count: usize) -> u64
 #[inline(never)]
 fn first_in_table<const N: usize>(front: Front, class: Class, last_slot: u64) -> usize
     requires { N ≤ 33024 }
-    ensures { Twin front.entry.keys class.last class.number (class.number + 1) front.entry.count result }
+    ensures { TwinOf front.entry.keys class.last class.number (class.number + 1) front.entry.count result }
 {
     let mut table = [0u32; N];
     table::first_met(front, class, last_slot, &mut table)
@@ -29,7 +29,7 @@ fn first_in_table<const N: usize>(front: Front, class: Class, last_slot: u64) ->
 
 // To clear the large table would cost a small layout more than its blocks do.
 fn first_in_class(front: Front, class: Class) -> usize
-    ensures { Twin front.entry.keys class.last class.number (class.number + 1) front.entry.count result }
+    ensures { TwinOf front.entry.keys class.last class.number (class.number + 1) front.entry.count result }
 {
     if front.count <= 64 {
         first_in_table::<192>(front, class, 127)
@@ -44,10 +44,10 @@ fn first_in_class(front: Front, class: Class) -> usize
 // search answers how many blocks it was asked of, and so bounds the search of the next class: an Option would be turned into that number at each.
 pub fn first_twin(keys: Keys, count: usize) -> usize
     requires { (count ≤ length keys.kinds.now) × (count ≤ side_limit + 1) }
-    ensures { result ≡ lowest_twin keys.entry count }
+    ensures { result ≡ lowest_repeat keys.entry count }
 {
     let all = Front { keys, count };
-    if orders::rises::<Key>(all) || orders::rises::<ByField>(all) {
+    if orders::rises::<ByKind>(all) || orders::rises::<ByField>(all) {
         return count;
     }
     let last = last_class(count);

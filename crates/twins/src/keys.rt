@@ -2,8 +2,8 @@
 ghost use Rattle.std.specs.Prelude.{◌≡◌, ◌+◌, ◌<◌, ◌≤◌, length};
 ghost use Rattle.base.specs.Checks.{side_limit};
 
-// In the order of its fields, as a station lists peak after peak. The kind is a number: twins are searched before the kinds are tested.
-#[derive(Clone, Copy, PartialEq, Eq, PartialOrd, Ord)]
+// The kind is a number: twins are searched before the kinds are tested.
+#[derive(Clone, Copy, PartialEq, Eq)]
 pub struct Key {
     pub kind: u8,
     pub id: u64,
@@ -30,7 +30,7 @@ pub(crate) struct Front<'a> {
 }
 
 impl Keys<'_> {
-    ghost use Rattle.twins.specs.Keys.{key_at, repeated};
+    ghost use Rattle.twins.specs.Views.{key_at, repeats};
 
     pub(crate) fn at(self, b: usize) -> Key
         requires { b < length self.kinds.now }
@@ -46,7 +46,7 @@ impl Keys<'_> {
     // Some block before b has the key of b.
     pub(crate) fn found_before(self, b: usize) -> bool
         requires { b < length self.kinds.now }
-        ensures { result ≡ repeated self.entry b }
+        ensures { result ≡ repeats self.entry b }
     {
         let key = self.at(b);
         (0..b).any(|a| self.at(a) == key)

@@ -3,7 +3,8 @@
 // is a free one: an Option in each slot would double the array. The table is written, and so is handed in beside its class and its last slot.
 ghost use Rattle.std.specs.Prelude.{◌≡◌, false, ◌&&◌, ◌+◌, ◌<◌, ◌≤◌, eqb, length};
 ghost use Rattle.base.specs.Checks.{side_limit};
-ghost use Rattle.twins.specs.Keys.{repeated, spread_of, class_at, Table, Twin};
+ghost use Rattle.twins.specs.Keys.{spread_of};
+ghost use Rattle.twins.specs.Views.{repeats, class_of, TableOf, TwinOf};
 
 use crate::keys::{Front, Key, Keys};
 
@@ -17,7 +18,7 @@ pub(crate) struct Class {
 // A key's bits, spread over a word: its class and its home slot. The products fit, since their factors have 32 bits.
 #[tactic(auto, unfolding(crate::specs::Keys::spread_of))]
 fn spread(key: Key) -> u64
-    ensures { result ≡ spread_of key }
+    ensures { result ≡ spread_of key.kind key.id key.field }
 {
     let of_id = ((key.id & 4294967295) * 2654435761) ^ ((key.id >> 32) * 2246822519);
     let mixed = of_id ^ (((key.field as u64) * 3266489917) ^ ((key.kind as u64) * 668265263));
@@ -27,9 +28,9 @@ fn spread(key: Key) -> u64
 // Block b is of the class and repeats an earlier key. If not, it is taken in. A table that is full from the home slot on, as ids chosen for
 // it can make it, costs a search of all earlier blocks.
 fn meets(keys: Keys, class: Class, last_slot: u64, table: &mut [u32], b: usize) -> bool
-    requires { (b < length keys.kinds.now) × (b ≤ side_limit) × Table keys table.old class.last class.number last_slot b }
-    ensures value { result ≡ (eqb (class_at keys.entry class.last b) class.number && repeated keys.entry b) }
-    ensures table { result ≡ false → Table keys.entry table.new class.last class.number last_slot (b + 1) }
+    requires { (b < length keys.kinds.now) × (b ≤ side_limit) × TableOf keys table.old class.last class.number last_slot b }
+    ensures value { result ≡ (eqb (class_of keys.entry class.last b) class.number && repeats keys.entry b) }
+    ensures table { result ≡ false → TableOf keys.entry table.new class.last class.number last_slot (b + 1) }
 {
     let key = keys.at(b);
     let bits = spread(key);
@@ -53,8 +54,8 @@ fn meets(keys: Keys, class: Class, last_slot: u64, table: &mut [u32], b: usize) 
 // The first block of the class that repeats a key, or how many blocks there are. `table` is scratch, all zero: each step writes it, and a closure of
 // `find` would have to say what it holds.
 pub(crate) fn first_met(front: Front, class: Class, last_slot: u64, table: &mut [u32]) -> usize
-    requires { Table front.keys table.old class.last class.number last_slot 0 }
-    ensures { Twin front.entry.keys class.last class.number (class.number + 1) front.entry.count result }
+    requires { TableOf front.keys table.old class.last class.number last_slot 0 }
+    ensures { TwinOf front.entry.keys class.last class.number (class.number + 1) front.entry.count result }
 {
     for b in 0..front.count {
         if meets(front.keys, class, last_slot, table, b) {

@@ -2,7 +2,7 @@
 use Rattle.std.proofs.Common.{refl, ◌∙◌, arith, rules, tests}
 use Rattle.std.proofs.lemmas.Iterator.{YieldsList-from_range}
 use Rattle.std.proofs.lemmas.Iterator.Search.{any_from_yields_List}
-use Rattle.twins.specs.Keys.{alike}
+use Rattle.twins.specs.Views.{alike}
 use Rattle.twins.proofs.Twins.{any-range, alike_at}
 use Rattle.twins.proofs.keys.Keys.found_before.Goals as goal
 
