@@ -4,21 +4,24 @@ use Rattle.std.specs.Prelude.{Ok, Err, Some, None}
 use Rattle.base.specs.declared.Refusal.TheVariants.{OutOfRange}
 use mathlib.Core.List.{List, [], ◌∷◌}
 use mathlib.Core.Path.{◌≡◌, refl, sym, ap, ◌∙◌}
-use Prim.Native.Nat.{ℕ, zero, suc, ◌-◌, ◌*◌, ◌%◌, ◌^◌, ◌≤◌, ◌<◌}
+use Prim.Native.Nat.{ℕ, zero, suc, ◌+◌, ◌-◌, ◌*◌, ◌%◌, ◌^◌, ◌≤◌, ◌<◌}
 use native.Mathlib.Nat.{not-suc-le-zero, le_of_suc-le-suc}
+use native.Mathlib.Numerals.{add-one}
 use native.Mathlib.Omega.{arith}
 use borrow.Author.Tests.{lt-ltb, le-ltb, le-leb, lt-leb}
 use lib.Bits.{bit_and}
-use lib.Count.{ones}
+use lib.Count.{ones, count_trailing_zeros}
 use lib.Dec.{eqb, leb}
-use lib.ListN.{length, get_or}
+use lib.ListN.{length, drop, get_or, length-drop}
+use lib.Seq.{drop-cons}
 use Rattle.base.specs.Checks.{must}
 use Rattle.base.specs.Sets.{count_below}
 use Rattle.base.proofs.Checks.{last-pass, last-stop, on-accepted, on-refused}
-use Rattle.word.specs.Bits.{bit_at, word_from}
-use Rattle.word.specs.Answers.{contains_answer, rank_answer, entry, on}
+use Rattle.base.proofs.Sets.{count-members}
+use Rattle.word.specs.Bits.{bit_at, set_bits, word_from}
+use Rattle.word.specs.Answers.{contains_answer, rank_answer, entry, select_answer, on}
 use Rattle.word.specs.declared.Operation.{Operation}
-use Rattle.word.proofs.Bits.{ones-count, one_shl, bit_test, rank-count}
+use Rattle.word.proofs.Bits.{ones-count, one_shl, bit_test, rank-count, lowest, no_bits}
 use Rattle.word.proofs.Words.{Bitwise, op-bits}
 
 -- ---- a bit, and a count of those below a place
@@ -56,6 +59,30 @@ pub entry_past : (l : List ℕ) (j : ℕ) → length l ≤ j → entry l j ≡ N
 entry_past [] j h = refl
 entry_past (x ∷ l) zero h = absurd (not-suc-le-zero h)
 entry_past (x ∷ l) (suc j) h = entry_past l j (le_of_suc-le-suc h)
+
+-- a word whose list of set bits is not empty is not 0
+pub bits_left : (m k j : ℕ) → set_bits m ≡ drop k (set_bits j) → k < length (set_bits j) → 0 < m
+bits_left zero k j e h = absurd (omega (arith, ap length (sym (no_bits 64) ∙ e), length-drop k (set_bits j)))
+bits_left (suc m) k j e h = omega arith
+
+-- one turn
+pub select-turn : (m k b : ℕ) → b < 2 ^ 64 → set_bits b ≡ drop k (set_bits m) → k < length (set_bits m)
+    → set_bits (bit_and b (b - 1)) ≡ drop (k + 1) (set_bits m)
+select-turn m k b f e h =
+    ap (drop 1) (sym (lowest 64 b (bits_left b k m e h) f) ∙ e ∙ drop-cons (set_bits m) k 0 h)
+    ∙ ap (λ (n : ℕ). drop n (set_bits m)) (sym (add-one k))
+
+pub select-none : (m j r : ℕ) → r ≡ count_below 64 (bit_at m) → r ≤ j → None ≡ select_answer m j
+select-none m j r e h = sym (entry_past (set_bits m) j (omega (arith, count-members 64 (bit_at m))))
+
+pub select-at : (m j k b : ℕ) → b < 2 ^ 64 → set_bits b ≡ drop k (set_bits m) → k ≡ j → j < length (set_bits m)
+    → Some (count_trailing_zeros 64 b) ≡ select_answer m j
+select-at m j k b f e q h =
+    let g : k < length (set_bits m) = omega arith in
+    ap Some
+    (ap (λ (l : List ℕ). get_or l 0 0) (sym (lowest 64 b (bits_left b k m e g) f) ∙ e ∙ drop-cons (set_bits m) k 0 g)
+    ∙ ap (λ (n : ℕ). get_or (set_bits m) n 0) q)
+    ∙ sym (entry_in (set_bits m) j h)
 
 -- ---- an operation that a match has told
 pub applied : (op : ℕ → ℕ → ℕ) (o told : Operation) (a b : ℕ) → told ≡ o → Bitwise 64 op (on o) → a < 2 ^ 64 → b < 2 ^ 64

@@ -94,8 +94,14 @@ impl AbtmTopologyWord {
     pub fn select(self, ordinal: usize) -> Option<usize>
         ensures { result ≡ select_answer self.mask ordinal }
     {
-        inner::Bits::of(self.mask)
-            .nth(ordinal)
-            .map(|bit| bit as usize)
+        if ordinal >= self.popcount() {
+            return None;
+        }
+        // The bits before it are cleared: `inner::Bits` would look for the place of each, in twice the time.
+        let mut bits = self.mask;
+        for _ in 0..ordinal {
+            bits &= bits - 1;
+        }
+        Some(bits.trailing_zeros() as usize)
     }
 }

@@ -1,26 +1,29 @@
--- The walk over the set bits gives them in rising order, and its item is the bit.
-use Rattle.std.proofs.Common.{◌≡◌, refl, sym, ap, ◌∙◌, ℕ, zero, suc, List, [], ◌∷◌, Option, None, Some, rules, tests}
-use Rattle.std.specs.List.{slice_get}
-use Rattle.std.specs.Option.{option_map}
-use Rattle.std.proofs.lemmas.Iterator.Consumers.{nth_from_yields_List, YieldsList-from_first}
-use Rattle.word.specs.Bits.{set_bits}
-use Rattle.word.specs.Answers.{entry}
-use Rattle.word.specs.declared.inner.Bits.{Bits}
+-- `word::AbtmTopologyWord::select` meets its contract. Assumes nothing.
+use Rattle.std.proofs.Common.{refl, arith, rules}
+use native.Mathlib.Nat.{lt_of_le_of_lt}
+use lib.Bits.{and_le_l}
+use Rattle.base.proofs.Sets.{count-members}
+use Rattle.word.specs.Bits.{bit_at}
+use Rattle.word.proofs.Answers.{bits_left, select-turn, select-none, select-at}
 use Rattle.word.proofs.AbtmTopologyWord.select.Goals as goal
 
-got : (xs : List ℕ) (j : ℕ) → slice_get xs j ≡ entry xs j
-got [] j = refl
-got (x ∷ xs) zero = refl
-got (x ∷ xs) (suc j) = got xs j
+pub returns-then-ordinal-popcount : goal.returns-then-ordinal-popcount
+returns-then-ordinal-popcount c = select-none _ _ _ c.popcount.ensures c.if-ordinal-popcount.true
 
-as-it-is : (o : Option ℕ) → option_map (λ x. x) o ≡ o
-as-it-is None = refl
-as-it-is (Some x) = refl
+pub loop-init : goal.loop-init
+loop-init c = (search rules, refl)
+
+pub overflow_sub-bits : goal.overflow_sub-bits
+overflow_sub-bits c = bits_left c.loop.bits c.loop.counter c.args.self.mask c.loop.invariant.1 (omega (arith, c.popcount.ensures, count-members 64 (bit_at c.args.self.mask)))
+
+pub loop-preserved : goal.loop-preserved
+loop-preserved c = (
+  lt_of_le_of_lt (and_le_l c.loop.bits _) c.loop.invariant.0,
+  select-turn c.args.self.mask c.loop.counter _ c.loop.invariant.0 c.loop.invariant.1 (omega (arith, c.popcount.ensures, count-members 64 (bit_at c.args.self.mask))),
+)
 
 pub returns : goal.returns
 returns c =
-    let e : c.nth.result ≡ entry (set_bits c.args.self.mask) c.args.ordinal =
-    sym (as-it-is c.nth.result)
-    ∙ nth_from_yields_List {v = λ x. x} c.nth.result _ c.args.ordinal c.nth.ensures.ran (YieldsList-from_first (λ x. x) (λ (s : Bits). set_bits s.left) (set_bits c.args.self.mask) (ap set_bits c.of.ensures))
-    ∙ got (set_bits c.args.self.mask) c.args.ordinal in
-    search (rules, tests) ∙ e
+    select-at c.args.self.mask c.args.ordinal c.loop.counter _
+    c.loop.invariant.0 c.loop.invariant.1 (omega arith)
+    (omega (arith, c.popcount.ensures, count-members 64 (bit_at c.args.self.mask)))
