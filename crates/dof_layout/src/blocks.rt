@@ -3,16 +3,16 @@ ghost use Rattle.std.specs.Prelude.{◌≡◌, ◌+◌, ◌<◌, ◌≤◌, leng
 ghost use Rattle.base.specs.Checks.{checks_below, side_limit};
 ghost use Rattle.dof_layout.specs.Layout.{is_kind_code, block_check};
 
-use crate::{DofEntityKind, FieldBlocks};
+use crate::FieldBlocks;
 use base::Refusal;
 use twins::inner::Keys;
 
-// A kind stands in C's lists as its number.
-#[tactic(auto, unfolding(base::specs::Checks::must))]
+// A kind stands in C's lists as its number. By range, for each block of a layout: no `DofEntityKind` is made and dropped.
+#[tactic(auto, unfolding(crate::specs::Layout::is_kind_code))]
 fn is_kind(kind: u8) -> bool
     ensures { result ≡ is_kind_code kind }
 {
-    DofEntityKind::try_from(kind as u32).is_ok()
+    matches!(kind, 1..=6 | 255)
 }
 
 // Up to which block twins are searched next. It grows with what is checked, so that an early refusal costs little. No equation: its caller needs the

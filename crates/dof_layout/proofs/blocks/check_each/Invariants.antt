@@ -4,7 +4,7 @@ use Rattle.std.specs.Prelude.{Ok}
 use Rattle.base.specs.Checks.{side_limit, checks_below}
 use Rattle.dof_layout.specs.Layout.{start_of, block_check}
 use Rattle.twins.specs.declared.keys.Keys.{Keys}
-use Rattle.twins.specs.Keys.{repeated}
+use Rattle.twins.specs.Views.{repeats}
 use Rattle.dof_layout.proofs.blocks.check_each.Given as goal
 
 -- the blocks before b pass; `total` is their running total, and at least their number
@@ -13,7 +13,7 @@ pub record Passed (keys : Keys) (components : List ℕ) (total b : ℕ) : Type 0
   pub running : total ≡ start_of components b
   pub short : total ≤ side_limit
   pub filled : b ≤ total
-  pub fresh : (a : ℕ) → a < b → repeated keys a ≡ false
+  pub fresh : (a : ℕ) → a < b → repeats keys a ≡ false
   pub checks : checks_below b (block_check keys.kinds.now keys.ids.now keys.fields.now components) ≡ Ok tt
 
 abbrev pub invariant-loop-from : goal.invariant-loop-from
