@@ -34,6 +34,7 @@ use Rattle.cutting.proofs.Local.{few_pairs}
 use Rattle.prepared_field_region.specs.declared.PreparedFieldAwareLocalRegion.{PreparedFieldAwareLocalRegion}
 use Rattle.job_text.specs.Answer.{result_lines}
 use Rattle.peak_job.specs.Answer.{region_text}
+use Rattle.peak_job.specs.Steps.{Arrays}
 
 -- ---- the checks
 
@@ -54,18 +55,28 @@ lt-25 : (a b : ℕ) → a < b → must (ltb a b) ListTooShort ≡ Ok tt
 lt-25 a b h = sym (last-pass _ _ _ (lt-ltb a b h) refl)
 
 -- the arrays have the room
-pub room-enough : (n entries : ℕ) → n ≤ 256 → entries ≤ 1023 → prepare_room n n entries 1024 1024 1024 1024 1024 1024 1024 1024 4 4 4 1024 1024 1024 1024 1024 ≡ Ok tt
+pub room-enough : (n entries : ℕ) (rptr ridx rmasks cptr cidx cmasks starts order region frontier scratch nodes pointers columns source_ptr sources : List ℕ) → n ≤ 256 → entries ≤ 1023
+    → Arrays rptr ridx rmasks cptr cidx cmasks starts order region frontier scratch nodes pointers columns source_ptr sources
+    → prepare_room n n entries (length rptr) (length ridx) (length rmasks) (length cptr) (length cidx) (length cmasks) (length starts) (length order) (length region) (length frontier) (length scratch) (length nodes) (length pointers) (length columns) (length source_ptr) (length sources) ≡ Ok tt
 unfolding prepare_room side_room masks_room local_room
-room-enough n entries few short =
-    let words : must (leb (words_needed n) 4) ListTooShort ≡ (Ok tt) = le-25 (words_needed n) 4 (omega arith) in
-    let nodes : must (leb n 1024) ListTooShort ≡ (Ok tt) = le-25 n 1024 (omega (arith, few)) in
-    let rows : must (ltb n 1024) ListTooShort ≡ (Ok tt) = lt-25 n 1024 (omega (arith, few)) in
-    let pairs : must (leb entries 1024) ListTooShort ≡ (Ok tt) = le-25 entries 1024 (omega (arith, short)) in
-    let ends : must (ltb entries 1024) ListTooShort ≡ (Ok tt) = lt-25 entries 1024 (omega (arith, short)) in
-    let side = both-pass _ _ rows (both-pass _ _ pairs pairs) in
+room-enough n entries rptr ridx rmasks cptr cidx cmasks starts order region frontier scratch nodes pointers columns source_ptr sources few short a =
+    let few_words : words_needed n ≤ 4 = omega arith in
     both-pass _ _
-    (both-pass _ _ side (both-pass _ _ side (both-pass _ _ rows pairs)))
-    (both-pass _ _ (both-pass _ _ words (both-pass _ _ words words)) (both-pass _ _ nodes (both-pass _ _ rows (both-pass _ _ pairs (both-pass _ _ ends pairs)))))
+    (both-pass _ _ (side rptr ridx rmasks a.row_pointers a.row_words a.row_masks)
+    (both-pass _ _ (side cptr cidx cmasks a.column_pointers a.column_words a.column_masks)
+    (both-pass _ _ (lt-25 n (length starts) (omega (arith, a.begins))) (le-25 entries (length order) (omega (arith, a.ordered))))))
+    (both-pass _ _
+    (both-pass _ _ (le-25 (words_needed n) (length region) (omega (arith, few_words, a.inside)))
+    (both-pass _ _ (le-25 (words_needed n) (length frontier) (omega (arith, few_words, a.reached))) (le-25 (words_needed n) (length scratch) (omega (arith, few_words, a.spent)))))
+    (both-pass _ _ (le-25 n (length nodes) (omega (arith, a.members)))
+    (both-pass _ _ (lt-25 n (length pointers) (omega (arith, a.local_pointers)))
+    (both-pass _ _ (le-25 entries (length columns) (omega (arith, a.local_columns)))
+    (both-pass _ _ (lt-25 entries (length source_ptr) (omega (arith, a.source_pointers))) (le-25 entries (length sources) (omega (arith, a.entry_sources))))))))
+  where
+    side : (p i m : List ℕ) → 1024 ≤ length p → 1024 ≤ length i → 1024 ≤ length m
+        → (must (ltb n (length p)) ListTooShort then must (leb entries (length i)) ListTooShort then must (leb entries (length m)) ListTooShort) ≡ Ok tt
+    side p i m hp hi hm =
+        both-pass _ _ (lt-25 n (length p) (omega (arith, few, hp))) (both-pass _ _ (le-25 entries (length i) (omega (arith, short, hi))) (le-25 entries (length m) (omega (arith, short, hm))))
 
 -- ---- what an answer of prepare_region says of its checks
 

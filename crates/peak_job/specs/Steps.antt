@@ -1,5 +1,5 @@
 -- What the steps of a job hand on to one another; no caller of the API needs it.
-use Rattle.std.specs.Prelude.{Bool, ◌&&◌, List, ℕ, leb, take}
+use Rattle.std.specs.Prelude.{Bool, ◌&&◌, List, ℕ, ◌≤◌, leb, length, take}
 use Rattle.std.specs.Prelude.{Option, Some, None}
 use Rattle.base.specs.Checks.{Check}
 use Rattle.base.specs.declared.Refusal.TheVariants.{OverLimit, MalformedJob}
@@ -15,6 +15,25 @@ use Rattle.peak_job.specs.Answer.{kinds_of, ids_of, fields_of, values_of, ask_ch
 -- its figures have room in the arrays
 abbrev pub read_fits : JobRead → Bool
 read_fits r = leb r.size 256 && leb r.blocks 1023 && leb r.pointers 1024 && leb r.columns 1023 && leb r.seeds 1024
+
+-- lists with room for 1,024 numbers, masks with room for 256 nodes
+pub record Arrays (rptr ridx rmasks cptr cidx cmasks starts order region frontier scratch nodes pointers columns source_ptr sources : List ℕ) : Type 0 where
+  pub row_pointers : 1024 ≤ length rptr
+  pub row_words : 1024 ≤ length ridx
+  pub row_masks : 1024 ≤ length rmasks
+  pub column_pointers : 1024 ≤ length cptr
+  pub column_words : 1024 ≤ length cidx
+  pub column_masks : 1024 ≤ length cmasks
+  pub begins : 1024 ≤ length starts
+  pub ordered : 1024 ≤ length order
+  pub inside : 4 ≤ length region
+  pub reached : 4 ≤ length frontier
+  pub spent : 4 ≤ length scratch
+  pub members : 1024 ≤ length nodes
+  pub local_pointers : 1024 ≤ length pointers
+  pub local_columns : 1024 ≤ length columns
+  pub source_pointers : 1024 ≤ length source_ptr
+  pub entry_sources : 1024 ≤ length sources
 
 -- the prepared region's order
 abbrev pub laid_check : ℕ → List ℕ → List ℕ → List ℕ → Check

@@ -25,6 +25,7 @@ use Rattle.prepared_field_region.specs.Views as lent
 use Rattle.prepared_field_region.specs.declared.PreparedFieldAwareLocalRegion.{PreparedFieldAwareLocalRegion}
 use Rattle.job_text.specs.Answer.{result_lines, text_answer, text_left}
 use Rattle.peak_job.specs.Answer.{text_of}
+use Rattle.peak_job.specs.Steps.{Arrays}
 use Rattle.peak_job.specs.Views.{lent_text}
 use Rattle.peak_job.proofs.Regions.{check-is, room-enough, prepared, refused, left_is, frontier_room, pairs_fit, text-is}
 use Rattle.peak_job.proofs.inner.prepare.Goals.{In-Ok, Start}
@@ -37,6 +38,28 @@ check s = check_matrix s.args.matrix then check_square s.args.layout s.args.matr
 abbrev whole : Start → Check
 whole s = check_prepare s.args.matrix s.args.layout s.args.seeds s.args.row_word_ptr.now s.args.row_word_indices.now s.args.row_masks.now s.args.column_word_ptr.now s.args.column_word_indices.now s.args.column_masks.now s.args.starts.now s.args.order.now s.args.region.now s.args.frontier.now s.args.scratch.now s.args.members.now s.args.local_ptr.now s.args.local_cols.now s.args.source_ptr.now s.args.sources.now
 
+-- the lists that it is handed are arrays of the program
+arrays : (s : Start) → Arrays s.args.row_word_ptr.now s.args.row_word_indices.now s.args.row_masks.now s.args.column_word_ptr.now s.args.column_word_indices.now s.args.column_masks.now s.args.starts.now s.args.order.now s.args.region.now s.args.frontier.now s.args.scratch.now s.args.members.now s.args.local_ptr.now s.args.local_cols.now s.args.source_ptr.now s.args.sources.now
+arrays s =
+    record {
+      row_pointers = omega (arith, s.told-row_word_ptr);
+      row_words = omega (arith, s.told-row_word_indices);
+      row_masks = omega (arith, s.told-row_masks);
+      column_pointers = omega (arith, s.told-column_word_ptr);
+      column_words = omega (arith, s.told-column_word_indices);
+      column_masks = omega (arith, s.told-column_masks);
+      begins = omega (arith, s.told-starts);
+      ordered = omega (arith, s.told-order);
+      inside = omega (arith, s.told-region);
+      reached = omega (arith, s.told-frontier);
+      spent = omega (arith, s.told-scratch);
+      members = omega (arith, s.told-members);
+      local_pointers = omega (arith, s.told-local_ptr);
+      local_columns = omega (arith, s.told-local_cols);
+      source_pointers = omega (arith, s.told-source_ptr);
+      entry_sources = omega (arith, s.told-sources);
+    }
+
 -- they are all that the call's are
 both : (s : Start) → whole s ≡ check s
 both s =
@@ -45,7 +68,7 @@ both s =
     let Q : Check = check_square s.args.layout n s.args.matrix.ncols in
     let R : ℕ → Check = λ k. prepare_room n k (length s.args.matrix.col_idx.now) (length s.args.row_word_ptr.now) (length s.args.row_word_indices.now) (length s.args.row_masks.now) (length s.args.column_word_ptr.now) (length s.args.column_word_indices.now) (length s.args.column_masks.now) (length s.args.starts.now) (length s.args.order.now) (length s.args.region.now) (length s.args.frontier.now) (length s.args.scratch.now) (length s.args.members.now) (length s.args.local_ptr.now) (length s.args.local_cols.now) (length s.args.source_ptr.now) (length s.args.sources.now) in
     let i = s.requires in
-    let room : R s.args.matrix.ncols ≡ (Ok tt) = rw (i.square, s.told-row_word_ptr, s.told-row_word_indices, s.told-row_masks, s.told-column_word_ptr, s.told-column_word_indices, s.told-column_masks, s.told-starts, s.told-order, s.told-region, s.told-frontier, s.told-scratch, s.told-members, s.told-local_ptr, s.told-local_cols, s.told-source_ptr, s.told-sources) (room-enough n (length s.args.matrix.col_idx.now) i.few i.short) in
+    let room : R s.args.matrix.ncols ≡ (Ok tt) = rw (i.square) (room-enough n (length s.args.matrix.col_idx.now) s.args.row_word_ptr.now s.args.row_word_indices.now s.args.row_masks.now s.args.column_word_ptr.now s.args.column_word_indices.now s.args.column_masks.now s.args.starts.now s.args.order.now s.args.region.now s.args.frontier.now s.args.scratch.now s.args.members.now s.args.local_ptr.now s.args.local_cols.now s.args.source_ptr.now s.args.sources.now i.few i.short (arrays s)) in
     ap (λ (k : ℕ). prepare_check (prepare_inputs M Q n k s.args.seeds.words.now) (R s.args.matrix.ncols)) i.alike ∙ check-is M Q (R s.args.matrix.ncols) n s.args.seeds.words.now i.mask room
 
 -- a region that was prepared
