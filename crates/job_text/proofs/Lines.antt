@@ -1,15 +1,21 @@
 -- The five lines of an answer: how long they are, that they are written one behind the other, and that what was counted has room. Assumes nothing.
-use mathlib.Core.Path.{◌≡◌, ap₂, ◌∙◌}
+use mathlib.Core.Path.{◌≡◌, refl, ap₂, ◌∙◌}
+use mathlib.Core.Bool.{Bool, true, false}
 use mathlib.Core.List.{List, [], ◌++◌, append_assoc}
 use Prim.Native.Nat.{ℕ, ◌+◌, ◌^◌, ◌≤◌, ◌<◌}
 use native.Mathlib.Omega.{arith}
+use borrow.Author.Tests.{leb-true}
+use lib.Dec.{leb}
 use lib.ListN.{length, length-append}
+use Rattle.std.specs.Prelude.{Ok}
+use Rattle.base.specs.Checks.{must, answer}
 use Rattle.base.specs.Lists.{over, placed}
+use Rattle.base.specs.declared.Refusal.TheVariants.{ListTooShort}
 use Rattle.base.proofs.Lists.{placed-over}
 use Rattle.text_writing.specs.Text.{decimal, numbers, line}
 use Rattle.text_writing.proofs.Digits.{decimal-most}
 use Rattle.text_writing.proofs.Lists.{length-line, numbers-most}
-use Rattle.job_text.specs.Answer.{region_key, frontier_key, completed_key, local_ptr_key, local_cols_key, result_lines}
+use Rattle.job_text.specs.Answer.{region_key, frontier_key, completed_key, local_ptr_key, local_cols_key, result_lines, text_check, text_answer}
 
 -- from the front on
 pub placed-front : (X l : List ℕ) → placed 0 X l ≡ over X l
@@ -66,6 +72,15 @@ module _ (region frontier : List ℕ) (completed : ℕ) (ptr cols : List ℕ) wh
       append_assoc (line1 ++ line2 ++ line3) line4 line5
       ∙ append_assoc (line1 ++ line2) line3 (line4 ++ line5)
       ∙ append_assoc line1 line2 (line3 ++ (line4 ++ line5))
+
+-- what was counted stands in the list
+pub counted-fits : (text out : List ℕ) (n : ℕ) → text_answer text out ≡ Ok n → n ≤ length out
+unfolding text_check must
+counted-fits text out n e = go (leb (length text) (length out)) refl e
+  where
+    go : (b : Bool) → leb (length text) (length out) ≡ b → answer (must b ListTooShort) (length text) ≡ Ok n → n ≤ length out
+    go true h f = let same : length text ≡ n = cc in omega (arith, leb-true (length text) (length out) h)
+    go false h f = absurd cc
 
 -- what decides how long the lines are, and that each has room
 pub numbers-line : (key xs : List ℕ) → length key ≤ 20 → length xs ≤ 1024 → length (line key (numbers xs)) < 2 ^ 32

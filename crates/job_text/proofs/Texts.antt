@@ -5,22 +5,37 @@ use mathlib.Core.List.{List}
 use Prim.Native.Nat.{ℕ}
 use lib.Dec.{eqb, leb}
 use lib.ListN.{length}
+use Rattle.std.specs.Prelude.{is_ok}
+use Rattle.std.specs.Result.{result_ok}
 use Rattle.std.specs.Bool.{then_some}
-use Rattle.text_reading.specs.Reading.{from_line}
-use Rattle.job_text.specs.Job.{size_key, blocks_key, ptr_key, cols_key, seeds_key, hops_key, text_limit, most64, most32, number_at, list_found_at, is_job, figures_read}
+use Rattle.text_reading.specs.Reading.{told, from_line}
+use Rattle.job_text.specs.Job.{size_key, blocks_key, ptr_key, cols_key, seeds_key, hops_key, text_limit, most64, most32, number_at, list_found_at, is_job, job_of, figures_of, job_found, figure_of, figures_read}
 
--- figures that are each there under a condition are all there under all of them
+-- whether what was read is a figure, and which
+ok-told : {A : Type 0} (b : Bool) (x : A) → is_ok (told b x) ≡ b
+ok-told true x = refl
+ok-told false x = refl
+
+pub figure-told : {A : Type 0} (b : Bool) (x : A) → figure_of (told b x) ≡ x
+figure-told true x = refl
+figure-told false x = refl
+
+-- figures that are each told under a condition are all told under all of them
 pub figures-all :
     (a b c d e f : Bool) (size blocks pointers columns seeds hops : ℕ)
-    → figures_read (then_some a size) (then_some b blocks) (then_some c pointers) (then_some d columns) (then_some e seeds) (then_some f hops)
-    ≡ then_some (a && b && c && d && e && f) (record { size = size; blocks = blocks; pointers = pointers; columns = columns; seeds = seeds; hops = hops })
-figures-all false b c d e f size blocks pointers columns seeds hops = refl
-figures-all true false c d e f size blocks pointers columns seeds hops = refl
-figures-all true true false d e f size blocks pointers columns seeds hops = refl
-figures-all true true true false e f size blocks pointers columns seeds hops = refl
-figures-all true true true true false f size blocks pointers columns seeds hops = refl
-figures-all true true true true true false size blocks pointers columns seeds hops = refl
-figures-all true true true true true true size blocks pointers columns seeds hops = refl
+    → figures_read (told a size) (told b blocks) (told c pointers) (told d columns) (told e seeds) (told f hops)
+    ≡ told (a && b && c && d && e && f) (record { size = size; blocks = blocks; pointers = pointers; columns = columns; seeds = seeds; hops = hops })
+figures-all a b c d e f size blocks pointers columns seeds hops = λ i.
+    told (ok-told a size i && ok-told b blocks i && ok-told c pointers i && ok-told d columns i && ok-told e seeds i && ok-told f hops i)
+    (record { size = figure-told a size i; blocks = figure-told b blocks i; pointers = figure-told c pointers i; columns = figure-told d columns i; seeds = figure-told e seeds i; hops = figure-told f hops i })
+
+-- the figures of a job, where they are told of one
+pub job-told : (t : List ℕ) → result_ok (told (is_job t) (figures_of (job_of t))) ≡ job_found t
+job-told t = go (is_job t)
+  where
+    go : (b : Bool) → result_ok (told b (figures_of (job_of t))) ≡ then_some b (figures_of (job_of t))
+    go true = refl
+    go false = refl
 
 -- the six lines are those of a job
 abbrev pub six_lines : List ℕ → Bool

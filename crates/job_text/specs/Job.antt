@@ -1,11 +1,11 @@
 -- A job: what it asks, and its text. Lines of key=value in the order size, blocks, ptr, cols, seeds, hops; size, seeds and hops
 -- have 64 bits, the others 32; at most 16,384 bytes.
 use Rattle.std.specs.Prelude.{Bool, ◌&&◌, List, [], ◌∷◌, ◌++◌, ℕ, eqb, leb, length}
-use Rattle.std.specs.Prelude.{Option, Some, None}
+use Rattle.std.specs.Prelude.{Option, Result, Ok, Err, is_ok}
 use Rattle.std.specs.Bool.{then_some}
 use Rattle.base.specs.Lists.{every}
 use Rattle.text_writing.specs.Text.{decimal, numbers, line}
-use Rattle.text_reading.specs.Reading.{is_number, number_of, is_list, list_of, is_line, value_of, from_line}
+use Rattle.text_reading.specs.Reading.{told, is_number, number_of, is_list, list_of, is_line, value_of, from_line}
 use Rattle.job_text.specs.declared.JobRead.{JobRead}
 
 -- blocks are their component counts; ptr and cols are the matrix's
@@ -119,8 +119,13 @@ figures_of j = record { size = j.size; blocks = length j.blocks; pointers = leng
 abbrev pub job_found : List ℕ → Option JobRead
 job_found t = then_some (is_job t) (figures_of (job_of t))
 
--- the figures, if each of them is there
-abbrev pub figures_read : Option ℕ → Option ℕ → Option ℕ → Option ℕ → Option ℕ → Option ℕ → Option JobRead
-figures_read (Some size) (Some blocks) (Some pointers) (Some columns) (Some seeds) (Some hops) =
-    Some (record { size = size; blocks = blocks; pointers = pointers; columns = columns; seeds = seeds; hops = hops })
-figures_read _ _ _ _ _ _ = None
+-- the figure, of what was read as one or not
+abbrev pub figure_of : {A : Type 0} → Result A A → A
+figure_of (Ok x) = x
+figure_of (Err x) = x
+
+-- the figures, and whether each was read as one
+abbrev pub figures_read : Result ℕ ℕ → Result ℕ ℕ → Result ℕ ℕ → Result ℕ ℕ → Result ℕ ℕ → Result ℕ ℕ → Result JobRead JobRead
+figures_read size blocks pointers columns seeds hops =
+    told (is_ok size && is_ok blocks && is_ok pointers && is_ok columns && is_ok seeds && is_ok hops)
+    (record { size = figure_of size; blocks = figure_of blocks; pointers = figure_of pointers; columns = figure_of columns; seeds = figure_of seeds; hops = figure_of hops })

@@ -1,7 +1,8 @@
 // Lines read and written one after the other, for callers that bring the lists: no part of the API.
 ghost use Rattle.std.specs.Prelude.{◌≡◌, ◌≤◌, length, take};
 ghost use Rattle.base.specs.Lists.{over};
-ghost use Rattle.job_text.specs.Job.{job_of, job_found, figures_read};
+ghost use Rattle.text_reading.specs.Reading.{told};
+ghost use Rattle.job_text.specs.Job.{is_job, job_of, figures_of, figure_of, figures_read};
 ghost use Rattle.text_writing.specs.Text.{decimal, line};
 ghost use Rattle.job_text.specs.Answer.{refused_text, refused_key, text_answer, text_left};
 
@@ -9,57 +10,78 @@ use crate::{JobRead, TEXT_LIMIT};
 use base::Refusal;
 use text_writing::inner::{Output, line_length, put_line};
 
-// The figures, if each of them was read.
-fn figures(
-    size: Option<u64>,
-    blocks: Option<usize>,
-    pointers: Option<usize>,
-    columns: Option<usize>,
-    seeds: Option<usize>,
-    hops: Option<u64>,
-) -> Option<JobRead>
-    ensures { result ≡ figures_read size blocks pointers columns seeds hops }
+// A figure, of a line that is one or not.
+fn figure<T>(read: Result<T, T>) -> T
+    ensures { result ≡ figure_of read }
 {
-    Some(JobRead {
-        size: size?,
-        blocks: blocks?,
-        pointers: pointers?,
-        columns: columns?,
-        seeds: seeds?,
-        hops: hops?,
-    })
+    match read {
+        Ok(x) => x,
+        Err(x) => x,
+    }
 }
 
-// The figures of the job, if the text is one. The whole text is read, also where a line before was bad or a list is longer than the one that it goes
-// to, which then takes its front.
+// The figures, in `Err` where a line is none.
+fn figures(
+    size: Result<u64, u64>,
+    blocks: Result<usize, usize>,
+    pointers: Result<usize, usize>,
+    columns: Result<usize, usize>,
+    seeds: Result<usize, usize>,
+    hops: Result<u64, u64>,
+) -> Result<JobRead, JobRead>
+    ensures { result ≡ figures_read size blocks pointers columns seeds hops }
+{
+    let read = JobRead {
+        size: figure(size),
+        blocks: figure(blocks),
+        pointers: figure(pointers),
+        columns: figure(columns),
+        seeds: figure(seeds),
+        hops: figure(hops),
+    };
+    if size.is_ok()
+        & blocks.is_ok()
+        & pointers.is_ok()
+        & columns.is_ok()
+        & seeds.is_ok()
+        & hops.is_ok()
+    {
+        Ok(read)
+    } else {
+        Err(read)
+    }
+}
+
+// The figures of the job, in `Err` where the text is none. The whole text is read, also where a line before was bad or a list is longer than the one
+// that it goes to, which then takes its front.
 pub fn read_job(
     text: &[u8],
     blocks: &mut [u32],
     ptr: &mut [u32],
     cols: &mut [u32],
     seeds: &mut [u64],
-) -> Option<JobRead>
-    ensures value { result ≡ job_found text.now }
+) -> Result<JobRead, JobRead>
+    ensures value { result ≡ told (is_job text.now) (figures_of (job_of text.now)) }
     ensures components { blocks.new ≡ over (take (length blocks.old) (job_of text.now).blocks) blocks.old }
     ensures pointers { ptr.new ≡ over (take (length ptr.old) (job_of text.now).ptr) ptr.old }
     ensures columns { cols.new ≡ over (take (length cols.old) (job_of text.now).cols) cols.old }
     ensures selected { seeds.new ≡ over (take (length seeds.old) (job_of text.now).seeds) seeds.old }
 {
-    let (size, rest) = text_reading::inner::number_line::<u64>(text, b"size=");
-    let (blocks, rest) = text_reading::inner::list_line(rest, b"blocks=", blocks);
-    let (pointers, rest) = text_reading::inner::list_line(rest, b"ptr=", ptr);
-    let (columns, rest) = text_reading::inner::list_line(rest, b"cols=", cols);
-    let (seeds, rest) = text_reading::inner::list_line(rest, b"seeds=", seeds);
-    let (hops, rest) = text_reading::inner::number_line::<u64>(rest, b"hops=");
+    let (size, rest) = text_reading::inner::number_line(text, b"size=", u64::MAX);
+    let (blocks, rest) = text_reading::inner::list_line(rest, b"blocks=", u32::MAX as u64, blocks);
+    let (pointers, rest) = text_reading::inner::list_line(rest, b"ptr=", u32::MAX as u64, ptr);
+    let (columns, rest) = text_reading::inner::list_line(rest, b"cols=", u32::MAX as u64, cols);
+    let (seeds, rest) = text_reading::inner::list_line(rest, b"seeds=", u64::MAX, seeds);
+    let (hops, rest) = text_reading::inner::number_line(rest, b"hops=", u64::MAX);
     let read = figures(size, blocks, pointers, columns, seeds, hops);
     if text.len() <= TEXT_LIMIT && rest.is_empty() {
         read
     } else {
-        None
+        Err(figure(read))
     }
 }
 
-// The line refused= and the number.
+// The line refused= and the refusal's number.
 pub fn refuse(r: Refusal, out: &mut [u8]) -> Result<u64, Refusal>
     ensures value { result ≡ text_answer (refused_text r) out.old }
     ensures out_after { out.new ≡ text_left (refused_text r) out.old }
@@ -67,8 +89,9 @@ pub fn refuse(r: Refusal, out: &mut [u8]) -> Result<u64, Refusal>
     write_refused(r.into(), out)
 }
 
+// The line refused= and any number.
 #[tactic(auto, using(crate::proofs::Lines::lengths))]
-fn write_refused(number: u32, out: &mut [u8]) -> Result<u64, Refusal>
+pub fn write_refused(number: u32, out: &mut [u8]) -> Result<u64, Refusal>
     ensures value { result ≡ text_answer (line refused_key (decimal number)) out.old }
     ensures out_after { out.new ≡ text_left (line refused_key (decimal number)) out.old }
 {

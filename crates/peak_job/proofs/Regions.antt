@@ -15,7 +15,7 @@ use Rattle.base.specs.Checks.{must, ◌then◌, leaves}
 use Rattle.base.specs.Lists.{over, over_with_zeros}
 use Rattle.base.specs.Sets.{count_below, members_below}
 use Rattle.base.specs.declared.Refusal.{Refusal}
-use Rattle.base.proofs.Checks.{last-pass, both-pass, then-none}
+use Rattle.base.proofs.Checks.{last-pass, both-pass, both-passed, then-none}
 use Rattle.base.proofs.Lists.{over-own, zeros-own}
 use Rattle.base.proofs.Sets.{count-members}
 use Rattle.csr32.specs.Matrix.{stored, IsMatrix}
@@ -47,6 +47,13 @@ check-is matrix square room n words m r =
     ∙ then-none (matrix then (square then length_check n n words))
     ∙ ap (λ (x : Check). matrix then (square then x)) (words-accepted n n words refl m)
     ∙ ap (λ (x : Check). matrix then x) (then-none square)
+
+-- what both accept, the prepared region's inputs do
+pub inputs-pass : (matrix square : Check) (n : ℕ) (words : List ℕ) → mask_check n words ≡ Ok tt → (matrix then square) ≡ Ok tt → prepare_inputs matrix square n n words ≡ Ok tt
+unfolding prepare_inputs
+inputs-pass matrix square n words m e =
+    let b = both-passed matrix square e in
+    both-pass matrix (square then length_check n n words) b.0 (both-pass square (length_check n n words) b.1 (words-accepted n n words refl m))
 
 pub le-25 : (a b : ℕ) → a ≤ b → must (leb a b) ListTooShort ≡ Ok tt
 le-25 a b h = sym (last-pass _ _ _ (le-leb a b h) refl)

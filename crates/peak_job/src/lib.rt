@@ -25,5 +25,5 @@ pub fn run(input: &[u8], out: &mut [u8]) -> Result<u64, Refusal>
     let mut cols: [u32; ARRAY] = [0; ARRAY];
     let mut seeds: [u64; ARRAY] = [0; ARRAY];
     let job = job_text::inner::read_job(input, &mut blocks, &mut ptr, &mut cols, &mut seeds);
-    inner::judge(job, &blocks, &ptr, &cols, &seeds, out)
+    inner::judge(job.ok(), &blocks, &ptr, &cols, &seeds, out)
 }

@@ -8,13 +8,13 @@ use native.Mathlib.Nat.{not-suc-le-zero}
 use native.Mathlib.Omega.{arith}
 use lib.ListN.{length, get_or, set, take, drop, length-take, length-drop, length-map, length-set, drop_of_length-le}
 use lib.Seq.{take_all, take-nil, get_or-take, set_out}
-use Rattle.std.specs.Prelude.{Option, Some, None}
+use Rattle.std.specs.Prelude.{Option, Some, None, Ok}
 use Rattle.std.specs.Bool.{then_some}
 use Rattle.base.specs.Lists.{every, is_in, written, over}
 use Rattle.base.proofs.Bools.{lt-or-le}
 use Rattle.base.proofs.Lists.{at_head, get_or-mapped, put_next, put-end}
 use Rattle.text_writing.specs.Text.{comma}
-use Rattle.text_reading.specs.Reading.{is_number, number_of, before, behind, parts, fields, is_list, list_of, list_read}
+use Rattle.text_reading.specs.Reading.{told, is_number, number_of, before, behind, parts, fields, is_list, list_of, list_read}
 use Rattle.text_reading.proofs.Numbers.{number-within}
 use Rattle.text_reading.proofs.Parts.{behind-shorter, parts_first}
 
@@ -31,11 +31,11 @@ fields-some [] h = absurd (not-suc-le-zero h)
 fields-some (b ∷ v) h = refl
 
 pub list-none : {A : Type 0} (made : ℕ → A) (most : ℕ) (v : List ℕ) (old : List A) → length v ≡ 0
-    → (Some 0 ≡ list_read most v) × (old ≡ over (take (length old) (map made (list_of most v))) old)
+    → (Ok 0 ≡ list_read most v) × (old ≡ over (take (length old) (map made (list_of most v))) old)
 unfolding is_list list_of
 list-none {A = A} made most v old h =
     let e : fields v ≡ [] = fields-none v h in (
-      sym (ap (λ (l : List (List ℕ)). then_some (every (is_number most) l) (length (map (number_of most) l))) e),
+      sym (ap (λ (l : List (List ℕ)). told (every (is_number most) l) (length l)) e),
       sym (ap (λ (l : List (List ℕ)). over (take (length old) (map made (map (number_of most) l))) old) e ∙ ap (λ (l : List A). over l old) (take-nil (length old))),
     )
 
@@ -155,12 +155,12 @@ module _ {A : Type 0} (made : ℕ → A) (most : ℕ) (bytes : List ℕ) (old : 
 
     pub listing-end :
         Listing made most bytes old list good count None → 0 < length bytes
-        → (then_some good count ≡ list_read most bytes) × (list ≡ over (take (length old) (map made (list_of most bytes))) old)
+        → (told good count ≡ list_read most bytes) × (list ≡ over (take (length old) (map made (list_of most bytes))) old)
     unfolding is_list list_of
     listing-end s p = (
-      ap₂ (λ (b : Bool) (n : ℕ). then_some b n)
+      ap₂ (λ (b : Bool) (n : ℕ). told b n)
           (sym (and-true good) ∙ ap (λ (l : List (List ℕ)). good && every (is_number most) l) (sym s.left) ∙ s.sofar ∙ ap (every (is_number most)) (sym all))
-          (all_read ∙ ap length (sym all) ∙ sym (length-map (fields bytes) (number_of most))),
+          (all_read ∙ ap length (sym all)),
       whole (lt-or-le (length old) (length (parts comma bytes))) ∙ ap (λ (l : List (List ℕ)). over (take (length old) (map made (map (number_of most) l))) old) (sym all),
     )
       where

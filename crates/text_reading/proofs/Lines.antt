@@ -15,6 +15,7 @@ use Rattle.std.specs.List.{starts_with}
 use Rattle.std.specs.Cmp.Lexicographic.{pointwise}
 use Rattle.base.specs.Lists.{same_list}
 use Rattle.base.proofs.Bools.{lt-or-le, eqb_swap}
+use Rattle.text_reading.specs.Reading.{told, held}
 
 -- the library's word for a text that begins with the key
 pub same_start : (t key : List ℕ) → starts_with eqb t key ≡ same_list (take (length key) t) key
@@ -48,3 +49,10 @@ module _ {A B : Type 0} (f : A → B) where
   seen-or None false x d r e h u = u ∙ sym (h refl)
   seen-or (Some y) true x d r e h u = cc
   seen-or (Some y) false x d r e h u = absurd cc
+
+-- what was read of the value of a line is what was read of the line
+pub held-told : {A : Type 0} (line read : Bool) (x : A) → held line (told read x) ≡ told (line && read) x
+held-told true true x = refl
+held-told true false x = refl
+held-told false true x = refl
+held-told false false x = refl

@@ -11,10 +11,11 @@ use lib.Dec.{eqb, ltb, leb}
 use lib.ListN.{length, get_or, take, drop, take-append-drop}
 use lib.Seq.{take-suc}
 use Rattle.std.specs.Prelude.{is_some, unwrap_or}
+use Rattle.std.specs.Option.{ok_or}
 use Rattle.std.specs.Bool.{then_some}
 use Rattle.base.specs.Lists.{every}
 use Rattle.base.proofs.Bools.{and_right}
-use Rattle.text_reading.specs.Reading.{is_digit, value_from, leading_zero, is_number, number_of, number_read}
+use Rattle.text_reading.specs.Reading.{is_digit, value_from, leading_zero, told, is_number, number_of, number_read}
 
 -- ---- the digits one after the other
 
@@ -76,6 +77,14 @@ module _ (most : ℕ) (s : List ℕ) where
   number-or = go (is_number most s)
     where
       go : (b : Bool) → unwrap_or (then_some b (cond b (value_from 0 s) 0)) 0 ≡ cond b (value_from 0 s) 0
+      go true = refl
+      go false = refl
+
+  pub number-told : ok_or (number_read most s) 0 ≡ told (is_number most s) (number_of most s)
+  unfolding number_of
+  number-told = go (is_number most s)
+    where
+      go : (b : Bool) → ok_or (then_some b (cond b (value_from 0 s) 0)) 0 ≡ told b (cond b (value_from 0 s) 0)
       go true = refl
       go false = refl
 

@@ -1,10 +1,14 @@
 -- What a text says: numbers have no leading zero, and a larger one than the most is none; lists use commas, an empty list is an
 -- empty value; a line has its key and ends in a newline.
 use Rattle.std.specs.Prelude.{Bool, false, not, cond, ◌&&◌, List, [], ◌∷◌, map, ℕ, zero, suc, ◌+◌, ◌-◌, ◌*◌, ◌≤◌, eqb, leb, ltb, length, take, drop}
-use Rattle.std.specs.Prelude.{Option}
+use Rattle.std.specs.Prelude.{Option, Result, Ok, Err}
 use Rattle.std.specs.Bool.{then_some}
 use Rattle.base.specs.Lists.{every, is_in, same_list}
 use Rattle.text_writing.specs.Text.{comma, newline}
+
+-- a figure, and whether what was read is one
+abbrev pub told : {A : Type 0} → Bool → A → Result A A
+told good x = cond good (Ok x) (Err x)
 
 -- ---- a number
 
@@ -74,9 +78,9 @@ is_list most v = every (is_number most) (fields v)
 unfoldable pub list_of : ℕ → List ℕ → List ℕ
 list_of most v = map (number_of most) (fields v)
 
--- how many numbers, if the bytes are a list
-abbrev pub list_read : ℕ → List ℕ → Option ℕ
-list_read most v = then_some (is_list most v) (length (list_of most v))
+-- how many fields, and whether the bytes are a list
+abbrev pub list_read : ℕ → List ℕ → Result ℕ ℕ
+list_read most v = told (is_list most v) (length (fields v))
 
 -- ---- a line
 
@@ -88,13 +92,18 @@ is_line key t = is_in newline t && same_list (take (length key) (before newline 
 unfoldable pub value_of : List ℕ → List ℕ → List ℕ
 value_of key t = drop (length key) (before newline t)
 
--- the number of the first line, if it is a line of the key with one
-abbrev pub number_found : List ℕ → ℕ → List ℕ → Option ℕ
-number_found key most t = then_some (is_line key t && is_number most (value_of key t)) (number_of most (value_of key t))
+-- what was read of a line's value, and whether the line is one too
+abbrev pub held : {A : Type 0} → Bool → Result A A → Result A A
+held good (Ok x) = told good x
+held good (Err x) = Err x
 
--- how many numbers its list has, if it is a line of the key with one
-abbrev pub list_found : List ℕ → ℕ → List ℕ → Option ℕ
-list_found key most t = then_some (is_line key t && is_list most (value_of key t)) (length (list_of most (value_of key t)))
+-- the number of the first line, and whether it is a line of the key with one
+abbrev pub number_found : List ℕ → ℕ → List ℕ → Result ℕ ℕ
+number_found key most t = told (is_line key t && is_number most (value_of key t)) (number_of most (value_of key t))
+
+-- how many numbers its list has, and whether it is a line of the key with one
+abbrev pub list_found : List ℕ → ℕ → List ℕ → Result ℕ ℕ
+list_found key most t = told (is_line key t && is_list most (value_of key t)) (length (list_of most (value_of key t)))
 
 -- the text from line k on
 unfoldable pub from_line : ℕ → List ℕ → List ℕ

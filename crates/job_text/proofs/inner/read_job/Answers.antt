@@ -1,12 +1,12 @@
 -- `job_text::inner::read_job` meets its contract. Assumes nothing.
 use Rattle.std.proofs.Common.{◌≡◌, Bool, List, ℕ, eqb, false, length, take, sym, ap, ◌∙◌, map-id}
 use borrow.Author.Tests.{le-leb, lt-leb}
-use Rattle.std.specs.Bool.{then_some}
+use Rattle.std.specs.Prelude.{Err}
 use Rattle.base.specs.Lists.{over}
 use Rattle.text_writing.specs.Text.{newline}
-use Rattle.text_reading.specs.Reading.{behind, list_of, value_of, number_found, list_found, from_line}
-use Rattle.job_text.specs.Job.{blocks_key, ptr_key, cols_key, seeds_key, hops_key, most64, most32, number_at, list_found_at, is_job, job_of, figures_of, figures_read}
-use Rattle.job_text.proofs.Texts.{figures-all, six_lines, job-whole, job-long, job-more}
+use Rattle.text_reading.specs.Reading.{told, behind, list_of, value_of, number_found, list_found, from_line}
+use Rattle.job_text.specs.Job.{blocks_key, ptr_key, cols_key, seeds_key, hops_key, most64, most32, number_at, list_found_at, is_job, job_of, figures_of, figure_of, figures_read}
+use Rattle.job_text.proofs.Texts.{figures-all, figure-told, six_lines, job-whole, job-long, job-more}
 use Rattle.job_text.proofs.inner.read_job.Goals.{After-figures-read, else-text-le-TEXT_LIMIT-via-then-text-le-TEXT_LIMIT+else-is_empty, else-text-le-TEXT_LIMIT-via-else-text-le-TEXT_LIMIT}
 use Rattle.job_text.proofs.inner.read_job.Goals as goal
 
@@ -39,7 +39,7 @@ module _ (c : After-figures-read) where
   ends : eqb (length c.number_line-hops.result.1.now) 0 ≡ eqb (length (from_line 6 c.args.text.now)) 0
   ends = ap (λ (t : List ℕ). eqb (length t) 0) behind6
 
-  read : c.figures-read.result ≡ then_some (six_lines c.args.text.now) (figures_of (job_of c.args.text.now))
+  read : c.figures-read.result ≡ told (six_lines c.args.text.now) (figures_of (job_of c.args.text.now))
   unfolding number_at list_found_at from_line job_of
   read =
       c.figures-read.ensures
@@ -65,7 +65,7 @@ returns-then-is_empty c =
     let t = c.args.text.now in
     let l = lists a in
     let whole = job-whole t (le-leb _ _ c.if-text-le-TEXT_LIMIT.true) (sym (ends a) ∙ sym c.is_empty.ensures ∙ c.if-is_empty.true) in record {
-      value = read a ∙ ap (λ (b : Bool). then_some b (figures_of (job_of t))) (sym whole);
+      value = read a ∙ ap (λ (b : Bool). told b (figures_of (job_of t))) (sym whole);
       components = l.0;
       pointers = l.1;
       columns = l.2;
@@ -81,7 +81,7 @@ returns-else-text-le-TEXT_LIMIT c =
       | else-text-le-TEXT_LIMIT-via-then-text-le-TEXT_LIMIT+else-is_empty w ↦ job-more t (sym (ends a) ∙ sym w.is_empty.ensures ∙ w.if-is_empty.false)
       | else-text-le-TEXT_LIMIT-via-else-text-le-TEXT_LIMIT w ↦ job-long t (lt-leb _ _ w.if-text-le-TEXT_LIMIT.false)
     ] in record {
-      value = sym (ap (λ (b : Bool). then_some b (figures_of (job_of t))) none);
+      value = ap Err (c.figure.ensures ∙ ap figure_of (read a) ∙ figure-told (six_lines t) (figures_of (job_of t))) ∙ sym (ap (λ (b : Bool). told b (figures_of (job_of t))) none);
       components = l.0;
       pointers = l.1;
       columns = l.2;

@@ -10,14 +10,14 @@ use Rattle.text_reading.proofs.inner.read_list.Goals.{After-unwrap_or}
 use Rattle.text_reading.proofs.inner.read_list.Goals as goal
 
 -- the number that is stored
-value : (g : Over) (c : After-unwrap_or g) → c.unwrap_or.result ≡ number_of g.T.Width.MOST (before comma c.in-Some.part.now)
-value g c = cc (c.unwrap_or.ensures, c.read_number-number.ensures, c.cut.ensures.front, number-or g.T.Width.MOST (before comma c.in-Some.part.now))
+value : (g : Over) (c : After-unwrap_or g) → c.unwrap_or.result ≡ number_of c.args.most (before comma c.in-Some.part.now)
+value g c = cc (c.unwrap_or.ensures, c.read_number-number.ensures, c.cut.ensures.front, number-or c.args.most (before comma c.in-Some.part.now))
 
 pub returns-then-is_empty : goal.returns-then-is_empty
-returns-then-is_empty g c = let e = list-none g.T.Width.made g.T.Width.MOST c.args.bytes.now c.args.list.now (eqb-true (length c.args.bytes.now) 0 (sym c.is_empty.ensures ∙ c.if-is_empty.true)) in record { count = e.0; list_after = e.1 }
+returns-then-is_empty g c = let e = list-none g.T.Width.made c.args.most c.args.bytes.now c.args.list.now (eqb-true (length c.args.bytes.now) 0 (sym c.is_empty.ensures ∙ c.if-is_empty.true)) in record { count = e.0; list_after = e.1 }
 
 pub of-requires : goal.of-requires
-of-requires g c = rw (value g (goal.at.of-requires g c).After-unwrap_or) (number-within _ _)
+of-requires g c = omega (arith, value g (goal.at.of-requires g c).After-unwrap_or, number-within c.args.most (before comma c.in-Some.part.now), c.requires.width)
 
 pub loop-left-smaller : goal.loop-left-smaller
 loop-left-smaller g c = omega (arith, left-shorter c.in-Some.part.now, ap left_length c.cut.ensures.back, ap (λ o. left_length (option_copied o)) c.in-Some.is)
@@ -25,7 +25,7 @@ loop-left-smaller g c = omega (arith, left-shorter c.in-Some.part.now, ap left_l
 pub loop-left-preserved : goal.loop-left-preserved
 loop-left-preserved g c =
     let made = g.T.Width.made in
-    let most = g.T.Width.MOST in
+    let most = c.args.most in
     let l = c.loop-left in
     let field = before comma c.in-Some.part.now in
     let turn = listing-turn made most c.args.bytes.now c.args.list.now l.list l.good l.count c.in-Some.part.now (subst (λ o. Listing made most c.args.bytes.now c.args.list.now l.list l.good l.count (option_copied o)) c.in-Some.is l.invariant) in
@@ -36,7 +36,7 @@ loop-left-preserved g c =
 pub returns : goal.returns
 returns g c =
     let l = c.loop-left in
-    let e = listing-end g.T.Width.made g.T.Width.MOST c.args.bytes.now c.args.list.now l.list l.good l.count (subst (λ o. Listing g.T.Width.made g.T.Width.MOST c.args.bytes.now c.args.list.now l.list l.good l.count (option_copied o)) c.in_default.is l.invariant) (omega (arith, eqb-false (length c.args.bytes.now) 0 (sym c.is_empty.ensures ∙ c.if-is_empty.false))) in record {
-      count = c.then_some.ensures ∙ e.0;
+    let e = listing-end g.T.Width.made c.args.most c.args.bytes.now c.args.list.now l.list l.good l.count (subst (λ o. Listing g.T.Width.made c.args.most c.args.bytes.now c.args.list.now l.list l.good l.count (option_copied o)) c.in_default.is l.invariant) (omega (arith, eqb-false (length c.args.bytes.now) 0 (sym c.is_empty.ensures ∙ c.if-is_empty.false))) in record {
+      count = c.tell.ensures ∙ e.0;
       list_after = e.1;
     }
