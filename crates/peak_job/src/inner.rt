@@ -19,7 +19,6 @@ use job_text::JobRead;
 use job_text::inner::JobResult;
 use mask::DofMask;
 use mask::inner::Mask;
-use std::array;
 
 // How many numbers an array of the program has. One block and one column less go into one: its last place is for the last offset, and for where the
 // last pair's sources end.
@@ -42,11 +41,14 @@ struct Asked<'a> {
     ghost few: { (size ≤ 256) × (length blocks.now ≤ 1023) × (length cols.now ≤ 1023) },
 }
 
-// The blocks' ids: each its own number.
-fn numbers() -> [u64; ARRAY]
-    ensures { result ≡ list_from (λ b. b) 1024 0 }
+// The blocks' ids: each its own number, written in place. What a function hands back as an array is copied by `memcpy`, which an archive for C would
+// need from outside besides `memmove` and `memset`.
+fn number(ids: &mut [u64; ARRAY])
+    ensures { ids.new ≡ list_from (λ b. b) 1024 0 }
 {
-    array::from_fn(|b| b as u64)
+    for b in 0..ARRAY {
+        ids[b] = b as u64;
+    }
 }
 
 // The blocks' running totals. A function of its own: of a list that is handed in the check knows that each component count has 32 bits, so that the
@@ -227,7 +229,8 @@ impl Asked<'_> {
         ensures out_after { out.new ≡ text_left (text_of (laid_check self.entry.size self.entry.blocks.now self.entry.ptr.now self.entry.cols.now) (region_text self.entry.size self.entry.ptr.now self.entry.cols.now self.entry.blocks.now words.now self.entry.hops)) out.old }
     {
         let kinds: [u8; ARRAY] = [1; ARRAY];
-        let ids = numbers();
+        let mut ids: [u64; ARRAY] = [0; ARRAY];
+        number(&mut ids);
         let fields: [u32; ARRAY] = [0; ARRAY];
         let values: [f64; ARRAY] = [1.0; ARRAY];
         let mut offsets: [u64; ARRAY] = [0; ARRAY];

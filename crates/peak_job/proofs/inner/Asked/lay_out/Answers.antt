@@ -33,11 +33,11 @@ returns c =
     let v : take (length cols) (replicate 1024 one) ≡ values_of cols = take-replicate (length cols) 1024 one (omega (arith, c.args.self.few.2)) in
     let k : take B (replicate {A = ℕ} 1024 1) ≡ kinds_of blocks = take-replicate {A = ℕ} B 1024 1 (omega (arith, c.args.self.few.1)) in
     let f : take B (replicate {A = ℕ} 1024 0) ≡ fields_of blocks = take-replicate {A = ℕ} B 1024 0 (omega (arith, c.args.self.few.1)) in
-    let i : take B c.numbers-ids.result ≡ ids_of blocks =
-    ap (take B) c.numbers-ids.ensures ∙ take-list_from (λ (b : ℕ). b) B 1024 0 (omega (arith, c.args.self.few.1)) in
+    let i : take B c.number.new.ids ≡ ids_of blocks =
+    ap (take B) c.number.ensures ∙ take-list_from (λ (b : ℕ). b) B 1024 0 (omega (arith, c.args.self.few.1)) in
     let o : take (B + 1) c.write_offsets.new.offsets ≡ offsets_of blocks =
     ap₂ (λ (m : ℕ) (l : List ℕ). take m l) last c.write_offsets.ensures ∙ over-own (offsets_of blocks) _ (suc B) (offsets-length blocks) in
-    let same : (matrix_check n n ptr cols (take (length cols) (replicate 1024 one)) then square_check (take B (replicate {A = ℕ} 1024 1)) (take B c.numbers-ids.result) (take B (replicate {A = ℕ} 1024 0)) blocks (take (B + 1) c.write_offsets.new.offsets) n n) ≡ laid_check n blocks ptr cols =
+    let same : (matrix_check n n ptr cols (take (length cols) (replicate 1024 one)) then square_check (take B (replicate {A = ℕ} 1024 1)) (take B c.number.new.ids) (take B (replicate {A = ℕ} 1024 0)) blocks (take (B + 1) c.write_offsets.new.offsets) n n) ≡ laid_check n blocks ptr cols =
     λ j. matrix_check n n ptr cols (v j) then square_check (k j) (i j) (f j) blocks (o j) n n in
     let t : List ℕ = region_text n ptr cols blocks c.args.words.now c.args.self.hops in record {
       value = c.cut.ensures.value ∙ ap (λ (x : Check). text_answer (text_of x t) c.args.out.now) same;
