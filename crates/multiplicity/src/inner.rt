@@ -12,7 +12,7 @@ use base::Refusal;
 use mask::inner::Mask;
 use topology::inner::ratio;
 use word::AbtmTopologyWord;
-use word::inner::Bits;
+use word::inner::{Bits, bit};
 
 // Regions that were accepted.
 #[derive(Clone, Copy)]
@@ -149,12 +149,14 @@ impl<'a> Regions<'a> {
         }
     }
 
-    // Whether a region holds a node.
+    // Whether a region holds a node. One word is read: by `region`, which cuts out all words of one, `weight` took a third more time.
     pub fn holds(self, region: usize, node: usize) -> bool
         requires { (region < self.region_count) × (node < self.node_count) }
         ensures { result ≡ held self.entry region node }
     {
-        self.region(region).holds(node)
+        let first = region * mask::inner::words_for(self.node_count);
+        let word = self.words[first + node / AbtmTopologyWord::BITS];
+        bit(word, node % AbtmTopologyWord::BITS)
     }
 
     // How many regions hold a node.
