@@ -12,7 +12,7 @@ use Rattle.std.proofs.Common.{eq-eqb}
 use Rattle.std.specs.List.{list_all, range_with_len}
 use Rattle.std.proofs.lemmas.List.FromFn.{length-range_with_len, get_or-range_with_len}
 use lib.Dec.{eqb}
-use lib.ListN.{length, get_or, take, drop, length-take, length-drop, get_or-eq_default}
+use lib.ListN.{length, get_or, take, length-take, length-drop, get_or-eq_default}
 use lib.Seq.{length-slice}
 use Rattle.base.specs.Checks.{side_limit}
 use Rattle.base.specs.Sets.{every_below}

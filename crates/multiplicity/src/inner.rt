@@ -149,7 +149,7 @@ impl<'a> Regions<'a> {
         }
     }
 
-    // Whether a region holds a node. One word is read: by `region`, which cuts out all words of one, `weight` took a third more time.
+    // Whether a region holds a node: one word is read, and no mask cut out.
     pub fn holds(self, region: usize, node: usize) -> bool
         requires { (region < self.region_count) × (node < self.node_count) }
         ensures { result ≡ held self.entry region node }
@@ -159,13 +159,16 @@ impl<'a> Regions<'a> {
         bit(word, node % AbtmTopologyWord::BITS)
     }
 
-    // How many regions hold a node.
+    // How many regions hold a node. By a sum: `filter` with `count` becomes a branch, and as regions that hold a node follow no order, it took a third
+    // more time.
     pub fn multiplicity(self, node: usize) -> u64
         requires { node < self.node_count }
         ensures { result ≡ multiplicity_at self.entry node }
     {
-        (0..self.region_count)
-            .filter(|q| self.holds(*q, node))
-            .count() as u64
+        let mut m: u64 = 0;
+        for q in 0..self.region_count {
+            m += u64::from(self.holds(q, node));
+        }
+        m
     }
 }

@@ -1,5 +1,5 @@
 -- `multiplicity::inner::Regions::holds` meets its contract. The word is read in the flat list, and one bit of it tested. Assumes nothing.
-use Rattle.std.proofs.Common.{◌≡◌, ◌∙◌, ap, sym, arith, ℕ, ◌+◌, ◌*◌, ◌/◌, ◌%◌, get_or}
+use Rattle.std.proofs.Common.{◌∙◌, ap, sym, arith, ℕ, ◌+◌, ◌*◌, ◌/◌, ◌%◌, get_or}
 use Rattle.word.specs.Bits.{bit_at}
 use Rattle.mask.specs.Mask.{in_mask}
 use Rattle.multiplicity.proofs.Regions.{region-word}
