@@ -155,10 +155,10 @@ impl System<'_> {
         })
     }
 
-    // Row r in either way.
-    fn follow(self, r: usize) -> Option<RowCounts>
-        requires { r < self.local.region.len }
-        ensures { FollowedRow self.entry r result }
+    // Row r in either way. Lent the system: a call would hand its 17 words on for each row anew.
+    fn follow(&self, r: usize) -> Option<RowCounts>
+        requires { r < self.now.local.region.len }
+        ensures { FollowedRow self.now r result }
     {
         let words = self.local.rows.row_word_ptr[r + 1] - self.local.rows.row_word_ptr[r];
         let entries = self.matrix.row_ptr[r + 1] - self.matrix.row_ptr[r];

@@ -9,6 +9,7 @@ use lib.ListN.{length-map}
 use Rattle.base.specs.Sets.{count_below}
 use Rattle.base.proofs.Sets.{count-members, count-le}
 use Rattle.word.specs.Bits.{bit_at, set_bits}
+use Rattle.word.proofs.Answers.{rank-in}
 use Rattle.word.proofs.Bits.{first_bit, lowest, no_bits}
 use Rattle.pattern.proofs.Coming.{coming_none, coming_in, coming_next}
 use Rattle.pattern.proofs.inner.write_word.Invariants.{numbers}
@@ -30,14 +31,17 @@ loop-left-init c = record { ends = ap (λ (k : ℕ). c.args.at + k) (length-map 
 
 pub overflow_add-cols : goal.overflow_add-cols
 overflow_add-cols c =
-    let few : c.rank.result ≤ count_trailing_zeros 64 c.loop-left.left = rw c.rank.ensures (count-le _ _) in
-    omega (arith, few, first_bit 64 c.loop-left.left (omega arith) (omega arith), c.requires.1)
+    let low = (first_bit 64 c.loop-left.left (omega arith) (omega arith)).0 in
+    let few : count_below (count_trailing_zeros 64 c.loop-left.left) (bit_at c.args.inside) ≤ count_trailing_zeros 64 c.loop-left.left = count-le _ _ in
+    omega (arith, rank-in c.args.inside (count_trailing_zeros 64 c.loop-left.left) low, few, low, c.requires.1)
 
 pub bounds-cols-next : goal.bounds-cols-next
 bounds-cols-next c = coming_in c.loop-left.invariant _ _ (turn (goal.at.bounds-cols-next c).In-loop-left) (omega arith)
 
 pub loop-left-preserved : goal.loop-left-preserved
-loop-left-preserved c = rw c.rank.ensures (coming_next c.loop-left.invariant _ _ (turn (goal.at.loop-left-preserved c).In-loop-left) (omega arith))
+loop-left-preserved c =
+    rw (rank-in c.args.inside (count_trailing_zeros 64 c.loop-left.left) (first_bit 64 c.loop-left.left (omega arith) (omega arith)).0)
+    (coming_next c.loop-left.invariant _ _ (turn (goal.at.loop-left-preserved c).In-loop-left) (omega arith))
 
 pub returns : goal.returns
 returns c =
